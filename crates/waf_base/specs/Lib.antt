@@ -1,0 +1,6 @@
+pub mod Counts
+pub mod Held
+pub mod Holding
+pub mod Read
+pub mod Taken
+pub use Rattle.sqlite_items.specs.formers
