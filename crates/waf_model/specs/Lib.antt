@@ -1,0 +1,2 @@
+pub mod Prefix
+pub use Rattle.sqlite_items.specs.formers
