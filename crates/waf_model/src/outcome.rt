@@ -18,7 +18,10 @@ pub enum Ender {
     /// The default action.
     Default,
     /// A rule of the web ACL.
-    Rule { priority: u32, name: Text },
+    Rule {
+        priority: u32,
+        name: Text,
+    },
     /// A rule of a group that a rule of the web ACL refers to.
     Inner {
         priority: u32,
