@@ -10,7 +10,7 @@ use Rattle.waf_model.specs.declared.bundle.Bundle.{Bundle}
 use Rattle.waf_model.specs.declared.outcome.Outcome.{Outcome}
 use Rattle.waf_model.specs.declared.request.Request.{Request}
 
--- every label that an answer of a managed group adds is one of managed groups
+-- every label that an answer of a managed group adds begins `awswaf:managed:` (this project's own)
 abbrev pub IsLawful : Answers → Type 0
 IsLawful answers = All (λ group. All (λ label. IsTrue (starts_with ◌==◌ label (codes "awswaf:managed:"))) group.labels) answers.groups
 
@@ -22,7 +22,8 @@ pair_limit old new = min old.acl.body_limit new.acl.body_limit
 abbrev pub Decides : Bundle → Request → Answers → Decision → Type 0
 Decides bundle request answers decision = (outcome : Outcome) × IsOutcome bundle request answers outcome × (outcome.decision ≡ decision)
 
--- on every request within the limits, and under all common lawful answers, the decisions are equal, codes included
+-- on every request within the limits, and under all common lawful answers, the decisions are equal, codes included; said
+-- of bundles whose outcomes are defined
 abbrev pub Alike : Bundle → Bundle → Type 0
 Alike old new = (request : Request) (answers : Answers) (d e : Decision) → Within request (pair_limit old new) → IsLawful answers
     → Decides old request answers d → Decides new request answers e → d ≡ e

@@ -10,8 +10,8 @@ use Rattle.waf_model.specs.declared.statement.Statement.{Statement}
 use Rattle.waf_model.specs.declared.statement.Statement.TheVariants.{ByteMatch}
 use Rattle.waf_model.specs.declared.transform.Transform.TheVariants.{KeepAll}
 
--- A byte match holds where some text that its field shows passes its test after the transformations. Of other
--- statements nothing is said yet.
+-- A byte match holds where some text that its field shows passes its test after the transformations. Until
+-- they are defined, other statements don't hold.
 abbrev pub Holds : Statement → Request → ℕ → Type 0
 Holds (ByteMatch search field transforms position) request body_limit =
     Any (λ text. Passes position search (transform_all transforms text)) (shown field request body_limit)

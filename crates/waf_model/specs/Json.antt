@@ -20,10 +20,12 @@ member_path path name = path ++ 46 ∷ name
 abbrev pub index_path : List ℕ → ℕ → List ℕ
 index_path path index = path ++ (91 ∷ decimal index ++ 93 ∷ [])
 
+-- the value is null
 abbrev pub is_null : Data → Bool
 is_null null = true
 is_null d = false
 
+-- the value is an object
 abbrev pub is_object : Data → Bool
 is_object (object ms) = true
 is_object d = false
@@ -37,6 +39,7 @@ present (Some d) = if is_null d then None else Some d
 abbrev pub optional_at : Data → List ℕ → List ℕ → Result (Option Data) ReadFault
 optional_at d name path = if is_object d then Ok (present (get name d)) else Err (Shape path)
 
+-- what must be there, or the fault at its path
 abbrev pub required : Option Data → List ℕ → Result Data ReadFault
 required None path = Err (Shape path)
 required (Some d) path = Ok d
@@ -50,14 +53,17 @@ abbrev pub elements : Items → List Data
 elements no_items = []
 elements (item d ds) = d ∷ elements ds
 
+-- the elements of a value that must be a list
 abbrev pub list_at : Data → List ℕ → Result (List Data) ReadFault
 list_at (array ds) path = Ok (elements ds)
 list_at d path = Err (Shape path)
 
+-- the bytes of a value that must be a text
 abbrev pub text_at : Data → List ℕ → Result (List ℕ) ReadFault
 text_at (string s) path = Ok s
 text_at d path = Err (Shape path)
 
+-- a value that must be true or false
 abbrev pub truth_at : Data → List ℕ → Result Bool ReadFault
 truth_at (boolean b) path = Ok b
 truth_at d path = Err (Shape path)
@@ -68,6 +74,7 @@ whole_number (unsigned n) path least most = if nat_le least n && nat_le n most t
 whole_number (negative z) path least most = Err (Number path)
 whole_number (float x) path least most = Err (Number path)
 
+-- a value that must be a whole number in the range
 abbrev pub whole_at : Data → List ℕ → ℕ → ℕ → Result ℕ ReadFault
 whole_at (number n) path least most = whole_number n path least most
 whole_at d path least most = Err (Shape path)
@@ -77,6 +84,7 @@ abbrev pub present_members : Members → ℕ
 present_members no_members = 0
 present_members (member name d ms) = if is_null d then present_members ms else present_members ms + 1
 
+-- how many members are there; a value that is no object has none
 abbrev pub member_count : Data → ℕ
 member_count (object ms) = present_members ms
 member_count d = 0

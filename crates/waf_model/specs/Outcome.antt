@@ -1,5 +1,8 @@
 -- What a web ACL decides of a request (AWS WAF Developer Guide, "How AWS WAF processes rules and rule groups in a web
--- ACL"): the first rule, by ascending priority, that matches and ends the evaluation, or the default action.
+-- ACL"): the first rule, by ascending priority, that matches and ends the evaluation, or the default action. This is the
+-- meaning where each rule is a plain one that allows or blocks by a match of the whole path (`HasPathRules`), and the
+-- rules stand by ascending priority (`IsSound` of a web ACL). For every other form there are stand-ins, on which no
+-- contract rests: a statement doesn't hold, a field shows nothing, a transformation leaves the text.
 use Rattle.std.specs.Prelude.{◌≡◌, ℕ, ◌<◌, ◌⊎◌, List, [], All, Option, Some, None, slice_get}
 use Rattle.waf_model.specs.Holds.{Holds, IsPathMatch}
 use Rattle.waf_model.specs.declared.action.Action.{Action}
@@ -16,13 +19,13 @@ use Rattle.waf_model.specs.declared.rule.Top.TheVariants.{Plain}
 use Rattle.waf_model.specs.declared.rule.TopRule.{TopRule}
 use Rattle.waf_model.specs.declared.web_acl.Acl.{Acl}
 
--- the statement of a plain rule holds. Of rules with groups nothing is said yet
+-- the statement of a plain rule holds; until they are defined, rules with groups don't match
 abbrev pub Matches : Top → Request → ℕ → Type 0
 Matches (Plain rule) request body_limit = Holds rule.statement request body_limit
 Matches body request body_limit = ⊥
 
--- what an action ends the evaluation with: Allow and Block do, Count does not. Of CAPTCHA and Challenge nothing is
--- said yet
+-- what an action ends the evaluation with: Allow and Block do, Count does not; until they are defined, CAPTCHA and
+-- Challenge don't either
 abbrev pub end_of : Action → Option Decision
 end_of actions.Allow = Some decisions.Allow
 end_of (actions.Block code) = Some (decisions.Block code)
@@ -33,11 +36,11 @@ abbrev pub end_of_rule : Top → Option Decision
 end_of_rule (Plain rule) = end_of rule.action
 end_of_rule body = None
 
--- no rule before this place matches
+-- no rule before this place matches and ends the evaluation
 abbrev pub NoneBefore : List TopRule → Request → ℕ → ℕ → Type 0
-NoneBefore rules request body_limit place = (i : ℕ) (top : TopRule) → i < place → slice_get rules i ≡ Some top → Matches top.body request body_limit → ⊥
+NoneBefore rules request body_limit place = (i : ℕ) (top : TopRule) → i < place → slice_get rules i ≡ Some top → Matches top.body request body_limit → end_of_rule top.body ≡ None
 
--- the rule at a place ends the evaluation: it matches, and no rule before it does
+-- the rule at a place decides: it matches and ends the evaluation, and no rule before it does both
 pub record RuleDecides (acl : Acl) (request : Request) (answers : Answers) (outcome : Outcome) : Type 0 where
   pub place : ℕ
   pub rule : TopRule
@@ -48,9 +51,9 @@ pub record RuleDecides (acl : Acl) (request : Request) (answers : Answers) (outc
   pub ender : outcome.ender ≡ enders.Rule rule.priority rule.name
   pub labels : outcome.labels ≡ []
 
--- no rule matches, and the default action decides
+-- no rule that matches ends the evaluation, and the default action decides
 pub record DefaultDecides (acl : Acl) (request : Request) (answers : Answers) (outcome : Outcome) : Type 0 where
-  pub none : (i : ℕ) (top : TopRule) → slice_get acl.rules i ≡ Some top → Matches top.body request acl.body_limit → ⊥
+  pub none : (i : ℕ) (top : TopRule) → slice_get acl.rules i ≡ Some top → Matches top.body request acl.body_limit → end_of_rule top.body ≡ None
   pub decision : outcome.decision ≡ acl.default
   pub ender : outcome.ender ≡ enders.Default
   pub labels : outcome.labels ≡ []

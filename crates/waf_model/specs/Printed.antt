@@ -19,6 +19,7 @@ decision_name (Block code) = codes "BLOCK"
 decision_name Captcha = codes "CAPTCHA"
 decision_name Challenge = codes "CHALLENGE"
 
+-- the line of a decision
 abbrev pub decision_line : Decision → List ℕ
 decision_line decision = codes "decision " ++ decision_name decision ++ codes "\n"
 
@@ -28,12 +29,15 @@ rule_line Default = codes "rule default\n"
 rule_line (Rule priority name) = codes "rule " ++ decimal priority ++ codes " " ++ name ++ codes "\n"
 rule_line (Inner priority name inner_priority inner_name) = codes "rule " ++ decimal priority ++ codes " " ++ name ++ codes " / " ++ decimal inner_priority ++ codes " " ++ inner_name ++ codes "\n"
 
+-- the line of a label
 abbrev pub label_line : List ℕ → List ℕ
 label_line label = codes "label " ++ label ++ codes "\n"
 
+-- how many costs are unknown, where some are
 abbrev pub unknown_part : ℕ → List ℕ
 unknown_part unknown = if unknown == 0 then [] else codes " unknown " ++ decimal unknown
 
+-- the known capacity, and how many costs are unknown
 abbrev pub capacity_line : Capacity → List ℕ
 capacity_line capacity = codes "capacity " ++ decimal capacity.known ++ unknown_part capacity.unknown ++ codes "\n"
 
@@ -43,6 +47,7 @@ outcome_text outcome capacity = decision_line outcome.decision ++ rule_line outc
 
 -- ---- a review
 
+-- two revisions decide alike
 abbrev pub equal_text : List ℕ
 equal_text = codes "review EQUAL\n"
 

@@ -1,4 +1,5 @@
--- The text of a request, which reads back as the request where it is within the limits (this project's own).
+-- The text of a request (this project's own). It is to read back as the request where that is within the limits with a
+-- body of at most 65,536 bytes.
 use Rattle.std.specs.Prelude.{ℕ, ◌*◌, ◌^◌, ◌/◌, ◌%◌, List, [], ◌∷◌, ◌++◌, map, codes, decimal, Bool, ◌&&◌, nat_le, if◌then◌else◌}
 use Rattle.std.specs.List.{list_all, join_with_byte}
 use Rattle.std.specs.Fmt.{digits}
@@ -28,9 +29,11 @@ address_text (V6 n) = join_with_byte 58 (map (group_text n) (7 ∷ 6 ∷ 5 ∷ 4
 abbrev pub is_printable : List ℕ → Bool
 is_printable text = list_all (λ b. nat_le 32 b && nat_le b 126) text
 
+-- the value as a text, or in base64 where a byte isn't 32 to 126
 abbrev pub value_member : List ℕ → List ℕ
 value_member value = if is_printable value then codes "\"value\":" ++ json_string value else codes "\"valueBase64\":" ++ json_string (base64_text value)
 
+-- an object with the name and the value
 abbrev pub header_text : Header → List ℕ
 header_text header = codes "{\"name\":" ++ json_string header.name ++ codes "," ++ value_member header.value ++ codes "}"
 

@@ -5,12 +5,11 @@ use Rattle.waf_model.specs.declared.field.Field.{Field}
 use Rattle.waf_model.specs.declared.field.Field.TheVariants.{UriPath}
 use Rattle.waf_model.specs.declared.request.Request.{Request}
 
--- the field is oversized in the request; the path never is. Of other fields nothing is said yet
+-- the field is oversized in the request: the path never is, and until they are defined no other field is
 abbrev pub IsOversized : Field → Request → ℕ → Type 0
-IsOversized UriPath request body_limit = ⊥
 IsOversized field request body_limit = ⊥
 
--- the texts that the field shows, in order: for the path the one text. Of other fields nothing is said yet
+-- the texts that the field shows, in order: for the path the one text; until they are defined, other fields show none
 abbrev pub shown : Field → Request → ℕ → List (List ℕ)
 shown UriPath request body_limit = request.path ∷ []
 shown field request body_limit = []

@@ -4,7 +4,8 @@ use Rattle.std.specs.Prelude.{ℕ, List, [], ◌∷◌}
 use Rattle.waf_model.specs.declared.transform.Transform.{Transform}
 use Rattle.waf_model.specs.declared.transform.Transform.TheVariants.{KeepAll}
 
--- the text after one transformation: NONE leaves it. Of the others nothing is said yet
+-- the text after one transformation: NONE leaves it; until they are defined the others do too, and no web ACL that is
+-- read has one
 abbrev pub transform : Transform → List ℕ → List ℕ
 transform KeepAll text = text
 transform other text = text

@@ -35,25 +35,29 @@ use Rattle.waf_model.specs.declared.web_acl.Acl.{Acl}
 abbrev pub greatest_priority : ℕ
 greatest_priority = 2147483647
 
--- the code of a Block that names none (AWS WAF Developer Guide, "Rule action settings")
+-- the code that every Block gets, since custom responses are unread yet: what a Block without one answers (AWS WAF
+-- Developer Guide, "Rule actions")
 abbrev pub forbidden : ℕ
 forbidden = 403
 
--- the immunity time, in seconds, and the body limit, in bytes, where a web ACL sets none
+-- the immunity time where a web ACL sets none, in seconds (AWS WAF Developer Guide, "CAPTCHA and Challenge token
+-- immunity times")
 abbrev pub default_immunity : ℕ
 default_immunity = 300
 
+-- the body limit of every web ACL, in bytes, whatever resource it protects (this project's own)
 abbrev pub default_body_limit : ℕ
 default_body_limit = 8192
 
--- the greatest length of a search string, in bytes, and the most rules of a web ACL that is read yet
+-- the greatest length of a search string, in bytes (this project's own)
 abbrev pub longest_search : ℕ
 longest_search = 8192
 
+-- the most rules of a web ACL that is read, as long as a review tries each path (this project's own)
 abbrev pub most_rules : ℕ
 most_rules = 1000
 
--- goes on where it is so, and else gives the fault
+-- Ok where the test is true, and else the fault
 abbrev pub ensured : Bool → ReadFault → Result ⊤ ReadFault
 ensured holds fault = if holds then Ok tt else Err fault
 
@@ -73,6 +77,7 @@ absent_at d name path = do
 
 -- ---- names, priorities, namespaces
 
+-- `Name`: a text that is a name
 unfoldable pub name_at : Data → List ℕ → Result (List ℕ) ReadFault
 name_at d path = do
   found ← member_at d (codes "Name") path
@@ -80,6 +85,7 @@ name_at d path = do
   named ← ensured (is_name text) (faults.Name (member_path path (codes "Name")))
   Ok text
 
+-- `Priority`: a whole number in the range of priorities
 unfoldable pub priority_at : Data → List ℕ → Result ℕ ReadFault
 priority_at d path = do
   found ← member_at d (codes "Priority") path
@@ -100,11 +106,12 @@ account_of arn =
 abbrev pub namespace_of : List ℕ → List ℕ → List ℕ
 namespace_of account name = codes "awswaf:" ++ account ++ codes ":webacl:" ++ name ++ codes ":"
 
+-- the namespace that an account and a name make; an ARN without an account makes none
 abbrev pub namespace_from : Option (List ℕ) → List ℕ → List ℕ → Result (List ℕ) ReadFault
 namespace_from None name path = Err (faults.Namespace path)
 namespace_from (Some account) name path = Ok (namespace_of account name)
 
--- an ARN that gives an account, and no namespace of its own
+-- `ARN`, which must give an account, and no `LabelNamespace`
 unfoldable pub namespace_at : Data → List ℕ → List ℕ → Result (List ℕ) ReadFault
 namespace_at d name path = do
   found ← member_at d (codes "ARN") path
@@ -123,16 +130,18 @@ action_of d path = if named_count (codes "Allow" ∷ codes "Block" ∷ codes "Co
     else (if is_there (codes "Captcha") d then Ok actions.Captcha else Ok actions.Challenge))))
     else Err (faults.Action path)
 
--- Allow and Block are evaluated
+-- the actions that are read yet: Allow and Block
 abbrev pub built_action : Action → List ℕ → Result Action ReadFault
 built_action actions.Allow path = Ok actions.Allow
 built_action (actions.Block code) path = Ok (actions.Block code)
 built_action action path = Err (faults.NotBuilt path)
 
+-- an action that must be there
 abbrev pub needed_action : Option Data → List ℕ → Result Data ReadFault
 needed_action None path = Err (faults.Action path)
 needed_action (Some d) path = Ok d
 
+-- `Action` of a rule
 unfoldable pub action_at : Data → List ℕ → Result Action ReadFault
 action_at d path = do
   found ← optional_at d (codes "Action") path
@@ -146,6 +155,7 @@ default_of d path = if named_count (codes "Allow" ∷ codes "Block" ∷ []) d ==
     then (if is_there (codes "Allow") d then Ok decisions.Allow else Ok (decisions.Block forbidden))
     else Err (faults.Action path)
 
+-- `DefaultAction` of a web ACL
 unfoldable pub default_at : Data → List ℕ → Result Decision ReadFault
 default_at d path = do
   found ← optional_at d (codes "DefaultAction") path
@@ -154,18 +164,19 @@ default_at d path = do
 
 -- ---- statements
 
+-- the decoded bytes, no more than a search string may have
 abbrev pub decoded_at : Option (List ℕ) → List ℕ → Result (List ℕ) ReadFault
 decoded_at None path = Err (faults.Base64 path)
 decoded_at (Some bytes) path = if nat_lt longest_search (length bytes) then Err (faults.Limit path longest_search) else Ok bytes
 
--- the bytes of a text in canonical base64 (RFC 4648), no more than a search string may have
+-- `SearchString`: a text in canonical base64 of the standard alphabet (RFC 4648, 4)
 unfoldable pub search_at : Data → List ℕ → Result (List ℕ) ReadFault
 search_at d path = do
   found ← member_at d (codes "SearchString") path
   text ← text_at found (member_path path (codes "SearchString"))
   decoded_at (decoded_of standard text) (member_path path (codes "SearchString"))
 
--- exactly one member, which is `UriPath`
+-- `FieldToMatch`: an object with exactly one member, which is `UriPath`
 unfoldable pub field_at : Data → List ℕ → Result Field ReadFault
 field_at d path = do
   found ← member_at d (codes "FieldToMatch") path
@@ -173,7 +184,7 @@ field_at d path = do
   built ← ensured (is_there (codes "UriPath") found) (faults.NotBuilt path)
   Ok UriPath
 
--- a transformation that is NONE
+-- one text transformation, which is NONE
 unfoldable pub transform_at : Data → List ℕ → Result Transform ReadFault
 transform_at d path = do
   found ← member_at d (codes "Priority") path
@@ -189,12 +200,14 @@ transforms_of [] path = Ok []
 transforms_of (d ∷ []) path = transform_at d (index_path path 0) >>= λ t. Ok (t ∷ [])
 transforms_of (d ∷ e ∷ ds) path = Err (faults.NotBuilt path)
 
+-- `TextTransformations`: a list of at most one transformation
 unfoldable pub transforms_at : Data → List ℕ → Result (List Transform) ReadFault
 transforms_at d path = do
   found ← member_at d (codes "TextTransformations") path
   all ← list_at found (member_path path (codes "TextTransformations"))
   transforms_of all (member_path path (codes "TextTransformations"))
 
+-- `PositionalConstraint`: EXACTLY
 unfoldable pub position_at : Data → List ℕ → Result Position ReadFault
 position_at d path = do
   found ← member_at d (codes "PositionalConstraint") path
@@ -202,6 +215,7 @@ position_at d path = do
   built ← ensured (bytes_eq text (codes "EXACTLY")) (faults.NotBuilt path)
   Ok Exactly
 
+-- the members of a byte match, in this order (API type `ByteMatchStatement`)
 unfoldable pub byte_match_at : Data → List ℕ → Result Statement ReadFault
 byte_match_at d path = do
   search ← search_at d path
@@ -210,6 +224,7 @@ byte_match_at d path = do
   position ← position_at d path
   Ok (ByteMatch search field transforms position)
 
+-- the kind of statement that is read yet: a byte match
 abbrev pub built_statement : Option Data → List ℕ → Result Statement ReadFault
 built_statement None path = Err (faults.NotBuilt path)
 built_statement (Some d) path = byte_match_at d (member_path path (codes "ByteMatchStatement"))
@@ -221,6 +236,7 @@ statement_of d path = do
   one ← ensured (member_count d == 1) (faults.OneStatement path)
   built_statement (present (get (codes "ByteMatchStatement") d)) path
 
+-- `Statement` of a rule
 unfoldable pub statement_at : Data → List ℕ → Result Statement ReadFault
 statement_at d path = do
   found ← member_at d (codes "Statement") path
@@ -268,6 +284,7 @@ entries_of rules = fold (λ entries rule. insert_entry nat_cmp entries rule.prio
 abbrev pub by_priority : List TopRule → List TopRule
 by_priority rules = map (λ entry. entry.1) (entries_of rules)
 
+-- the rules of a list, by ascending priority; none where there is no list
 abbrev pub rules_of : Option Data → List ℕ → Result (List TopRule) ReadFault
 rules_of None path = Ok []
 rules_of (Some d) path = do
@@ -276,6 +293,7 @@ rules_of (Some d) path = do
   rules ← rules_from 0 [] all path
   Ok (by_priority rules)
 
+-- `Rules` of a web ACL
 unfoldable pub rules_at : Data → List ℕ → Result (List TopRule) ReadFault
 rules_at d path = do
   found ← optional_at d (codes "Rules") path
@@ -283,6 +301,7 @@ rules_at d path = do
 
 -- ---- the web ACL and its bundle
 
+-- the members of a web ACL, in this order
 unfoldable pub acl_at : Data → List ℕ → Result Acl ReadFault
 acl_at d path = do
   name ← name_at d path
@@ -302,6 +321,7 @@ nothing_referred_at d path = do
   managed ← absent_at d (codes "ManagedCapacities") path
   absent_at d (codes "RuleGroups") path
 
+-- `WebACL` of a bundle that refers to nothing
 unfoldable pub top_of : Data → Result Acl ReadFault
 top_of d = do
   referred ← nothing_referred_at d (codes "$")
@@ -313,6 +333,7 @@ abbrev pub first_form : {A : Type 0} → Result A ReadFault → Result A ReadFau
 first_form (Ok a) = Ok a
 first_form (Err fault) = Err (faults.NotBuilt (codes "$"))
 
+-- the web ACL of a parsed text, or the one fault of a text that is no JSON or not of the first form
 abbrev pub web_acl_of : Option Data → Result Acl ReadFault
 web_acl_of None = Err faults.Json
 web_acl_of (Some d) = first_form (top_of d)

@@ -42,6 +42,7 @@ is_value_byte b = (b == 9) || (nat_le 32 b && nat_le b 126) || (nat_le 128 b && 
 abbrev pub is_path : List ℕ → Bool
 is_path path = starts_with ◌==◌ path (codes "/") && nat_le (length path) 4096 && list_all is_path_byte path
 
+-- a query has at most 4,096 bytes, each of them a query byte
 abbrev pub is_query : List ℕ → Bool
 is_query query = nat_le (length query) 4096 && list_all is_query_byte query
 
@@ -70,7 +71,7 @@ abbrev pub IsAddress : Address → Type 0
 IsAddress (V4 n) = n < 2 ^ 32
 IsAddress (V6 n) = n < 2 ^ 128
 
--- the request is within the limits, with a body of at most so many bytes
+-- the request is within the limits, with a body of at most so many bytes, each of which is one (below 256)
 pub record Within (request : Request) (body_limit : ℕ) : Type 0 where
   pub method : IsTrue (is_method request.method)
   pub path : IsTrue (is_path request.path)

@@ -34,7 +34,8 @@ pub enum LabelScope {
 #[derive(Debug, Drop)]
 pub struct Forwarded {
     pub header: Text,
-    /// The statement holds where the header has no valid address.
+    /// Whether the statement holds where no piece that is looked at is in the set and one of them is no address. An
+    /// absent header never matches.
     pub fallback: bool,
     pub position: ForwardedPosition,
 }

@@ -6,14 +6,16 @@ ghost use Rattle.waf_model.specs.declared.read_fault.ReadFault.TheVariants as fa
 use std::alloc::{AllocError, AllocFailed};
 use waf_base::{Memory, Text};
 
-/// The first fault that is met in reading order, with the path where it is, or that memory was wanting.
+/// The first fault that is met in reading order, with its path, priority or ARN, or that memory was wanting.
 #[derive(Debug, Drop)]
 pub enum ReadFault {
     /// The bytes are no JSON text that is read (E1).
     Json,
-    /// A required member is absent, or a value has another JSON kind (E2).
+    /// A required member is absent, a value has another JSON kind, or a field or match pattern has not exactly one
+    /// member (E2).
     Shape(Text),
-    /// A number is not whole, or is out of its range (E3).
+    /// A number is not whole or is out of its range, or a statement that stands in a key holds a number that is not
+    /// whole (E3).
     Number(Text),
     /// A text is none of the names that may stand there, or not of the alphabet (E4).
     Name(Text),

@@ -45,7 +45,8 @@ pub enum Statement {
     And(Items<Statement>),
     Or(Items<Statement>),
     Not(Boxed<Statement>),
-    /// A rate-based statement. `custom_keys` is their count, or 2^32 - 1 where there are more.
+    /// A rate-based statement. `custom_keys` is the number of elements of `CustomKeys`, or 2^32 - 1 where there are
+    /// more.
     Rate {
         key: Text,
         custom_keys: u32,

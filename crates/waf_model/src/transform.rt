@@ -3,6 +3,7 @@
 /// A change of a text before it is tested.
 #[derive(Clone, Copy, Debug, PartialEq, Eq)]
 pub enum Transform {
+    /// NONE: the text as it is.
     KeepAll,
     Lowercase,
     RemoveNulls,
