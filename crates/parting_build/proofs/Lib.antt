@@ -1,0 +1,2 @@
+pub mod PathOnly
+pub mod Unnamed

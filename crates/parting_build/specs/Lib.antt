@@ -1,0 +1,3 @@
+pub mod Candidate
+pub mod Named
+pub mod Reviewed

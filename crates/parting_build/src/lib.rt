@@ -1,0 +1,10 @@
+//! The review of two revisions of a web ACL: that they decide alike, or a request that parts them.
+#![tactic(auto)]
+
+mod candidate;
+mod named;
+mod revisions;
+mod verdict;
+
+pub use revisions::review;
+pub use verdict::{Parting, Reason, Review, ReviewStop, Side};
