@@ -1,0 +1,4 @@
+pub mod Counted
+pub mod Parsed
+pub mod Scalars
+pub mod Viewed
