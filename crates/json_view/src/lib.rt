@@ -8,7 +8,9 @@ mod path;
 mod scalar;
 
 pub use fault::ViewFault;
-pub use members::{is_null, is_object, is_there, list, member, member_count, optional};
+pub use members::{
+    is_null, is_object, is_there, list, member, member_count, optional, present_member,
+};
 pub use parsing::parse;
 pub use path::{copy_of, index_path, member_path};
 pub use scalar::{text, truth, whole};

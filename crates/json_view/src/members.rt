@@ -105,8 +105,8 @@ fn count_present(members: &Map<String, Value>) -> usize
     count
 }
 
-// The member of that name, if it is there and not null.
-fn present_member<'a>(v: &'a Value, name: &str) -> Option<&'a Value>
+/// The member of that name, if it is there and not null; None also where the value is no object.
+pub fn present_member<'a>(v: &'a Value, name: &str) -> Option<&'a Value>
     ensures { option_map (λ m. view m.now) result ≡ present (get name.now (view v.now)) }
 {
     match v.get(name) {

@@ -3,6 +3,7 @@
 ghost use Rattle.json_view.specs.Faults.{fault_of};
 ghost use Rattle.json_view.specs.declared.fault.ViewFault.TheVariants as faults;
 ghost use Rattle.serde_json.specs.View.{view};
+ghost use Rattle.std.specs.Prelude.{◌≤◌, IfOk};
 ghost use Rattle.waf_model.specs.Gives.{GivesAs};
 ghost use Rattle.waf_model.specs.Json.{text_at, truth_at, whole_at};
 
@@ -35,7 +36,8 @@ pub fn truth(alloc: Global, v: &Value, path: &Text) -> Result<bool, ViewFault>
 /// The number that the value is: Shape at the path where it is no number, and Number at the path where it is not
 /// whole, or not between the two, which are in the range.
 pub fn whole(alloc: Global, v: &Value, path: &Text, least: u64, most: u64) -> Result<u64, ViewFault>
-    ensures { GivesAs fault_of faults.Memory (λ found. found) result (whole_at (view v.now) path.now least most) }
+    ensures value { GivesAs fault_of faults.Memory (λ found. found) result (whole_at (view v.now) path.now least most) }
+    ensures within { IfOk result (λ found. (least ≤ found) × (found ≤ most)) }
 {
     if !v.is_number() {
         return Err(shape(alloc, path));
