@@ -9,7 +9,7 @@ use Rattle.std.proofs.lemmas.Option.{slice_get_within, get_or_from_slice_get}
 use Rattle.std.proofs.lemmas.Slice.Eq.{bytes_eq-Decides}
 use Rattle.std.specs.Str.{bytes_eq}
 use Rattle.acl_eval.proofs.PathMatch.{holds_is}
-use Rattle.waf_model.specs.Alike.{Alike, Decides}
+use Rattle.waf_model.specs.Alike.{Alike, Decides, no_answers}
 use Rattle.waf_model.specs.Within.{is_path}
 use Rattle.waf_model.specs.Holds.{Holds, IsPathMatch}
 use Rattle.waf_model.specs.Outcome.{Matches, IsPathRule, HasPathRules}
@@ -22,7 +22,7 @@ use Rattle.waf_model.specs.declared.rule.Top.TheVariants.{Plain}
 use Rattle.waf_model.specs.declared.rule.TopRule.{TopRule}
 use Rattle.waf_model.specs.declared.statement.Statement.{Statement}
 use Rattle.waf_model.specs.declared.statement.Statement.TheVariants.{ByteMatch}
-use Rattle.parting_build.specs.Candidate.{AlikeAt, request_at, no_answers}
+use Rattle.parting_build.specs.Candidate.{AlikeAt, plain_get}
 use Rattle.parting_build.specs.Named.{names, search_of, search_of_rule}
 
 -- the path decides whether a match of the whole path holds
@@ -106,15 +106,15 @@ alike_everywhere old new path old_rules new_rules at_old at_new no_old no_new at
     -- both decide so on the request that is tried for the path of this one
     here : AlikeAt old new request.path → d ≡ e
     here alike = alike d e
-        (moved old request (request_at request.path) answers no_answers d (same_path old.acl.rules request (request_at request.path) old.acl.body_limit old_rules refl) old_decides)
-        (moved new request (request_at request.path) answers no_answers e (same_path new.acl.rules request (request_at request.path) new.acl.body_limit new_rules refl) new_decides)
+        (moved old request (plain_get request.path) answers no_answers d (same_path old.acl.rules request (plain_get request.path) old.acl.body_limit old_rules refl) old_decides)
+        (moved new request (plain_get request.path) answers no_answers e (same_path new.acl.rules request (plain_get request.path) new.acl.body_limit new_rules refl) new_decides)
 
     by_names : (a b : Bool) → names old.acl.rules request.path ≡ a → names new.acl.rules request.path ≡ b → d ≡ e
     by_names true b is_old is_new = here (at_old request.path is_old within.path)
     by_names false true is_old is_new = here (at_new request.path is_new within.path)
     by_names false false is_old is_new = at_path d e
-        (moved old request (request_at path) answers no_answers d (unnamed old.acl.rules request (request_at path) old.acl.body_limit old_rules is_old no_old) old_decides)
-        (moved new request (request_at path) answers no_answers e (unnamed new.acl.rules request (request_at path) new.acl.body_limit new_rules is_new no_new) new_decides)
+        (moved old request (plain_get path) answers no_answers d (unnamed old.acl.rules request (plain_get path) old.acl.body_limit old_rules is_old no_old) old_decides)
+        (moved new request (plain_get path) answers no_answers e (unnamed new.acl.rules request (plain_get path) new.acl.body_limit new_rules is_new no_new) new_decides)
 
 -- the two decide alike at every path that the list names
 abbrev pub AlikeAtNamed : Bundle → Bundle → List TopRule → Type 0

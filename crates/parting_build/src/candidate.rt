@@ -2,11 +2,11 @@
 
 ghost use Rattle.std.specs.Prelude.{◌≡◌, IsTrue, IfOk, IfSome, None, MatchOption};
 ghost use Rattle.std.specs.List.{list_all};
-ghost use Rattle.waf_model.specs.Alike.{Decides, Parts};
+ghost use Rattle.waf_model.specs.Alike.{Decides, Parts, no_answers};
 ghost use Rattle.waf_model.specs.declared.action.Decision.{Decision};
 ghost use Rattle.waf_model.specs.Outcome.{HasPathRules};
 ghost use Rattle.waf_model.specs.Within.{is_path as path_test, is_path_byte as path_byte_test};
-ghost use Rattle.parting_build.specs.Candidate.{AlikeAt, request_at, no_answers};
+ghost use Rattle.parting_build.specs.Candidate.{AlikeAt, plain_get};
 
 use crate::verdict::Parting;
 use acl_eval::{evaluate, one_outcome};
@@ -36,7 +36,7 @@ fn has_path_bytes(path: &[u8]) -> bool
 
 /// A plain GET of that path.
 fn request_for(alloc: Global, path: &[u8]) -> Result<Request, Memory>
-    ensures { IfOk result (λ request. request ≡ request_at path.now) }
+    ensures { IfOk result (λ request. request ≡ plain_get path.now) }
 {
     Ok(Request {
         method: Text::of(alloc, b"GET")?,
@@ -62,8 +62,8 @@ fn none_answered(alloc: Global) -> Answers
 /// What the bundle's web ACL decides of the request that is tried for the path.
 fn decision_at(alloc: Global, bundle: &Bundle, path: &[u8]) -> Result<Decision, Memory>
     requires { HasPathRules bundle.now }
-    ensures decides { IfOk result (Decides bundle.now (request_at path.now) no_answers) }
-    ensures alone { IfOk result (λ decision. (other : Decision) → Decides bundle.now (request_at path.now) no_answers other → other ≡ decision) }
+    ensures decides { IfOk result (Decides bundle.now (plain_get path.now) no_answers) }
+    ensures alone { IfOk result (λ decision. (other : Decision) → Decides bundle.now (plain_get path.now) no_answers other → other ≡ decision) }
 {
     one_outcome();
     let request = request_for(alloc, path)?;
@@ -81,7 +81,7 @@ pub(crate) fn parting_at(
 ) -> Result<Option<Parting>, Memory>
     requires old_rules { HasPathRules old.now }
     requires new_rules { HasPathRules new.now }
-    ensures found { IfOk result (λ found. IfSome found (λ parting. Parts old.now new.now parting.request parting.answers parting.old parting.new × (parting.request ≡ request_at path.now))) }
+    ensures found { IfOk result (λ found. IfSome found (λ parting. Parts old.now new.now parting.request parting.answers parting.old parting.new × (parting.request ≡ plain_get path.now))) }
     ensures none { IfOk result (λ found. found ≡ None → IsTrue (path_test path.now) → AlikeAt old.now new.now path.now) }
 {
     if !is_path(path) {

@@ -3,6 +3,7 @@
 ghost use Rattle.std.specs.Prelude.{◌≡◌, ◌≤◌, [], ℕ, List, IsTrue, None, length, IfOk, IfErr, IfSome};
 ghost use Rattle.waf_model.specs.Alike.{Alike, Parts};
 ghost use Rattle.waf_model.specs.Outcome.{HasPathRules};
+ghost use Rattle.waf_model.specs.WebAclReading.{most_rules};
 ghost use Rattle.waf_model.specs.Within.{is_path};
 ghost use Rattle.parting_build.specs.Candidate.{AlikeAt};
 ghost use Rattle.parting_build.specs.Named.{names};
@@ -27,8 +28,8 @@ pub fn review(
 ) -> Result<Review, ReviewStop>
     requires old_rules { HasPathRules old.now }
     requires new_rules { HasPathRules new.now }
-    requires old_count { length old.now.acl.rules ≤ 1000 }
-    requires new_count { length new.now.acl.rules ≤ 1000 }
+    requires old_count { length old.now.acl.rules ≤ most_rules }
+    requires new_count { length new.now.acl.rules ≤ most_rules }
     ensures answer { IfOk result (IsReview old.now new.now) }
     ensures stop { IfErr result (λ stop. stop ≡ stops.Memory) }
     ensures meter { meter.new ≡ meter.old }
@@ -65,8 +66,8 @@ fn tried_rules(
 fn find_parting(alloc: Global, old: &Bundle, new: &Bundle) -> Result<Option<Parting>, Memory>
     requires old_rules { HasPathRules old.now }
     requires new_rules { HasPathRules new.now }
-    requires old_count { length old.now.acl.rules ≤ 1000 }
-    requires new_count { length new.now.acl.rules ≤ 1000 }
+    requires old_count { length old.now.acl.rules ≤ most_rules }
+    requires new_count { length new.now.acl.rules ≤ most_rules }
     ensures found { IfOk result (λ found. IfSome found (λ parting. Parts old.now new.now parting.request parting.answers parting.old parting.new × (parting.request.headers ≡ []))) }
     ensures none { IfOk result (λ found. found ≡ None → Alike old.now new.now) }
 {

@@ -1,5 +1,5 @@
 -- Two revisions of a web ACL decide alike, or a request and answers part them (this project's own).
-use Rattle.std.specs.Prelude.{ℕ, ◌≡◌, ◌≢◌, codes, min, All, IsTrue}
+use Rattle.std.specs.Prelude.{[], ℕ, ◌≡◌, ◌≢◌, codes, min, All, IsTrue}
 use Rattle.std.specs.List.{starts_with}
 use Rattle.std.specs.Prelude.{◌==◌}
 use Rattle.waf_model.specs.Outcome.{IsOutcome}
@@ -13,6 +13,10 @@ use Rattle.waf_model.specs.declared.request.Request.{Request}
 -- every label that an answer of a managed group adds begins `awswaf:managed:` (this project's own)
 abbrev pub IsLawful : Answers → Type 0
 IsLawful answers = All (λ group. All (λ label. IsTrue (starts_with ◌==◌ label (codes "awswaf:managed:"))) group.labels) answers.groups
+
+-- no answer to any question
+abbrev pub no_answers : Answers
+no_answers = record { statements = []; groups = []; tokens = [] }
 
 -- the body limit of a pair: the lesser of the two
 abbrev pub pair_limit : Bundle → Bundle → ℕ
