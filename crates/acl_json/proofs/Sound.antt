@@ -1,5 +1,5 @@
 -- What every web ACL that is read keeps to.
-use Rattle.std.proofs.Common.{◌≡◌, ℕ, ◌+◌, ◌<◌, List, [], ◌∷◌, ◌++◌, map, length, false, eqb, not, nat_lt, ◌||◌, nat_cmp, IsPermutation, All, AllPairs, codes, Option, Some, None, Result, Ok, Err, IfOk, refl, ap, sym, subst, ◌∙◌, append-nil, arith}
+use Rattle.std.proofs.Common.{◌≡◌, ℕ, suc, ◌+◌, ◌<◌, ◌≤◌, true, List, [], ◌∷◌, ◌++◌, map, length, false, eqb, not, nat_lt, ◌||◌, nat_cmp, IsPermutation, All, AllPairs, codes, Option, Some, None, Result, Ok, Err, IfOk, refl, ap, sym, subst, ◌∙◌, append-nil, arith}
 use Rattle.std.proofs.lemmas.List.Elements.{All-cons}
 use Rattle.std.proofs.lemmas.List.Sorted.{IsPermutation-refl, IsPermutation-trans, IsPermutation-middle, IsPermutation-append_left, IsPermutation-map, All-permutation, length_permutation}
 use Rattle.std.specs.BTreeMap.{insert_entry}
@@ -7,10 +7,10 @@ use Rattle.std.specs.List.{fold, list_any, range_with_len}
 use Rattle.std.specs.Map.{keys_of, values_of}
 use Rattle.serde_json.specs.Data.{Data}
 use Rattle.waf_model.specs.Gives.{Gives}
-use Rattle.waf_model.specs.Json.{parsed, member_at, member_path, optional_at, list_at, text_at}
+use Rattle.waf_model.specs.Json.{parsed, member_at, member_path, optional_at, list_at, text_at, index_path}
 use Rattle.waf_model.specs.Outcome.{HasPathRules, IsPathRule}
 use Rattle.waf_model.specs.WebAcl.{IsSound, IsNamespace, IsSameRule, bundle_of}
-use Rattle.waf_model.specs.WebAclReading.{absent_at, account_of, acl_at, by_priority, default_at, ensured, entries_of, first_form, most_rules, name_at, namespace_at, namespace_from, namespace_of, nothing_referred_at, rules_at, rules_from, rules_of, top_of, web_acl_of, web_acl_reading}
+use Rattle.waf_model.specs.WebAclReading.{absent_at, account_of, acl_at, by_priority, default_at, ensured, entries_of, first_form, most_rules, name_at, namespace_at, namespace_from, namespace_of, nothing_referred_at, rules_at, rule_at, rules_from, rules_of, top_of, web_acl_of, web_acl_reading}
 use Rattle.waf_model.specs.declared.read_fault.ReadFault.{ReadFault}
 use Rattle.waf_model.specs.declared.read_fault.ReadFault.TheVariants as faults
 use Rattle.waf_model.specs.declared.rule.TopRule.{TopRule}
@@ -18,6 +18,8 @@ use Rattle.waf_model.specs.declared.web_acl.Acl.{Acl}
 use Rattle.acl_json.proofs.Ascending.{Ascends, ascends_insert, pairs_of, priorities_insert, permuted_insert, Entry}
 use Rattle.acl_json.proofs.Priorities.{any-insert_entry}
 use Rattle.acl_json.proofs.Behind.{SamePriorities}
+use Rattle.std.proofs.lemmas.Bool.Decides.{nat_tests}
+use Rattle.acl_json.proofs.Tested.{held}
 use Rattle.acl_json.proofs.Readings.{both_gave, given, AreRead, rules_read}
 
 -- ---- the order of the rules
@@ -75,9 +77,10 @@ pub record AreSound (rules : List TopRule) : Type 0 where
   pub places : IsPermutation (range_with_len 0 (length rules)) (map (λ top. top.place) rules)
   pub plain : All (λ top. IsSameRule top top.body) rules
   pub paths : All (λ top. IsPathRule top.body) rules
+  pub few : length rules ≤ most_rules
 
-ordered_sound : (rules : List TopRule) → AreRead 0 [] rules → AreSound (by_priority rules)
-ordered_sound rules read =
+ordered_sound : (rules : List TopRule) → AreRead 0 [] rules → length rules ≤ most_rules → AreSound (by_priority rules)
+ordered_sound rules read few =
     let kept = rules_kept rules read in
     record {
       priorities = priorities_ascend rules;
@@ -85,10 +88,24 @@ ordered_sound rules read =
           (subst (λ (places : List ℕ). IsPermutation places (map (λ top. top.place) (by_priority rules))) (sym (places_are 0 [] rules read)) (IsPermutation-map (λ (top : TopRule). top.place) rules (by_priority rules) kept));
       plain = All-permutation (λ top. IsSameRule top top.body) rules (by_priority rules) kept (all_same 0 [] rules read);
       paths = All-permutation (λ top. IsPathRule top.body) rules (by_priority rules) kept (all_path 0 [] rules read);
+      few = let same : length (by_priority rules) ≡ length rules = length_permutation rules (by_priority rules) kept in omega arith;
     }
 
+-- as many rules are read as stand in the list
+counted : (place : ℕ) (earlier : List ℕ) (ds : List Data) (path : List ℕ) (rules : List TopRule) → rules_from place earlier ds path ≡ Ok rules → length rules ≡ length ds
+unfolding rules_from
+counted place earlier [] path rules e = ap (λ (rs : List TopRule). length rs) (sym (given [] rules e))
+counted place earlier (d ∷ ds) path rules e =
+    let first = both_gave (rule_at place earlier d (index_path path place)) _ rules e in
+    let rest = both_gave (rules_from (place + 1) (first.0.priority ∷ earlier) ds path) _ rules first.2 in
+    ap (λ (rs : List TopRule). length rs) (sym (given (first.0 ∷ rest.0) rules rest.2)) ∙ ap suc (counted (place + 1) (first.0.priority ∷ earlier) ds path rest.0 rest.1)
+
+-- a list that passes the test is short enough
+short : (n : ℕ) (fault : ReadFault) (u : Unit {0}) → ensured (not (nat_lt most_rules n)) fault ≡ Ok u → n ≤ most_rules
+short n fault u e = let passes : not (nat_lt most_rules n) ≡ true = held (not (nat_lt most_rules n)) fault u (sym e) in grind (arith, nat_tests)
+
 none_sound : AreSound []
-none_sound = record { priorities = λ i j d below within. absurd (omega arith); places = IsPermutation-refl []; plain = λ k d below. absurd (omega arith); paths = λ k d below. absurd (omega arith) }
+none_sound = record { priorities = λ i j d below within. absurd (omega arith); places = IsPermutation-refl []; plain = λ k d below. absurd (omega arith); paths = λ k d below. absurd (omega arith); few = omega arith }
 
 found_sound : (found : Option Data) (path : List ℕ) (rules : List TopRule) → rules_of found path ≡ Ok rules → AreSound rules
 found_sound None path rules e = subst AreSound (given [] rules e) none_sound
@@ -96,7 +113,8 @@ found_sound (Some d) path rules e =
     let all = both_gave (list_at d path) _ rules e in
     let fits = both_gave (ensured (not (nat_lt most_rules (length all.0))) (faults.NotBuilt path)) _ rules all.2 in
     let read = both_gave (rules_from 0 [] all.0 path) _ rules fits.2 in
-    subst AreSound (given (by_priority read.0) rules read.2) (ordered_sound read.0 (rules_read all.0 0 [] path read.0 read.1))
+    subst AreSound (given (by_priority read.0) rules read.2) (ordered_sound read.0 (rules_read all.0 0 [] path read.0 read.1)
+    (let few = short (length all.0) (faults.NotBuilt path) fits.0 fits.1 in let same = counted 0 [] all.0 path read.0 read.1 in omega arith))
 
 rules_sound : (d : Data) (path : List ℕ) (rules : List TopRule) → rules_at d path ≡ Ok rules → AreSound rules
 unfolding rules_at
@@ -106,7 +124,7 @@ rules_sound d path rules e =
 
 from_sound : (account : Option (List ℕ)) (name path namespace : List ℕ) → namespace_from account name path ≡ Ok namespace → IsNamespace namespace
 from_sound None name path namespace e = absurd (cc)
-from_sound (Some account) name path namespace e = subst IsNamespace (given (namespace_of account name) namespace e) (account ++ codes ":webacl:" ++ name, refl)
+from_sound (Some account) name path namespace e = subst IsNamespace (given (namespace_of account name) namespace e) ((account ++ codes ":webacl:" ++ name ++ codes ":", refl), (codes "awswaf:" ++ account ++ codes ":webacl:" ++ name, refl))
 
 namespace_sound : (d : Data) (name path namespace : List ℕ) → namespace_at d name path ≡ Ok namespace → IsNamespace namespace
 unfolding namespace_at
@@ -165,3 +183,8 @@ sound_of bytes (Err fault) gives = tt
 pub paths_of : (bytes : List ℕ) (r : Result Acl ReadFault) → Gives faults.Memory (λ acl. acl) r (web_acl_reading bytes) → IfOk r (λ acl. HasPathRules (bundle_of acl))
 paths_of bytes (Ok acl) gives = (reading_good bytes acl gives).rules.paths
 paths_of bytes (Err fault) gives = tt
+
+-- and there are no more of them than are read
+pub few_of : (bytes : List ℕ) (r : Result Acl ReadFault) → Gives faults.Memory (λ acl. acl) r (web_acl_reading bytes) → IfOk r (λ acl. length acl.rules ≤ most_rules)
+few_of bytes (Ok acl) gives = (reading_good bytes acl gives).rules.few
+few_of bytes (Err fault) gives = tt

@@ -1,11 +1,11 @@
 //! Web ACLs.
 
 ghost use Rattle.serde_json.specs.View.{view};
-ghost use Rattle.std.specs.Prelude.{◌≡◌, IfOk};
+ghost use Rattle.std.specs.Prelude.{◌≡◌, ◌≤◌, IfOk, length};
 ghost use Rattle.waf_model.specs.Gives.{Gives};
 ghost use Rattle.waf_model.specs.Outcome.{HasPathRules};
 ghost use Rattle.waf_model.specs.WebAcl.{IsSound, bundle_of};
-ghost use Rattle.waf_model.specs.WebAclReading.{acl_at, first_form, nothing_referred_at, top_of, web_acl_reading};
+ghost use Rattle.waf_model.specs.WebAclReading.{acl_at, first_form, most_rules, nothing_referred_at, top_of, web_acl_reading};
 ghost use Rattle.waf_model.specs.declared.read_fault.ReadFault.TheVariants as read_faults;
 
 use crate::actions::default_action;
@@ -26,11 +26,12 @@ const DEFAULT_BODY_LIMIT: u32 = 8192;
 
 /// The web ACL of a bundle, its rules by ascending priority. It fails where memory was wanting, with `Json` where the
 /// bytes are no JSON text, and with `NotBuilt` at `$` where the bundle is not of the first form.
-#[tactic(auto, using(crate::proofs::Sound::sound_of, crate::proofs::Sound::paths_of))]
+#[tactic(auto, using(crate::proofs::Sound::sound_of, crate::proofs::Sound::paths_of, crate::proofs::Sound::few_of))]
 pub fn read_acl(alloc: Global, bytes: &[u8]) -> Result<Acl, ReadFault>
     ensures reading { Gives read_faults.Memory (λ acl. acl) result (web_acl_reading bytes.now) }
     ensures sound { IfOk result IsSound }
     ensures path_rules { IfOk result (λ acl. HasPathRules (bundle_of acl)) }
+    ensures few { IfOk result (λ acl. length acl.rules ≤ most_rules) }
 {
     read_first_form(alloc, bytes)
 }
