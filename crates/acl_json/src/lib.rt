@@ -10,3 +10,6 @@ mod statements;
 mod web_acl;
 
 pub use web_acl::read_acl;
+
+#[cfg(test)]
+mod tests;

@@ -14,3 +14,6 @@ pub use members::{
 pub use parsing::parse;
 pub use path::{copy_of, index_path, member_path};
 pub use scalar::{text, truth, whole};
+
+#[cfg(test)]
+mod tests;
