@@ -7,6 +7,7 @@ pub mod JsonText
 pub mod Letters
 pub mod Outcome
 pub mod Passes
+pub mod Pattern
 pub mod Pieces
 pub mod Prefix
 pub mod Printed
