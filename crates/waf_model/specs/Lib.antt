@@ -8,6 +8,8 @@ pub mod Letters
 pub mod Outcome
 pub mod Passes
 pub mod Pattern
+pub mod PatternGrammar
+pub mod PatternPieces
 pub mod Pieces
 pub mod Prefix
 pub mod Printed

@@ -1,0 +1,8 @@
+//! The reader of patterns: the text of a regular expression of the subset, to its pattern.
+#![tactic(auto)]
+
+mod byte_class;
+mod counts;
+mod members;
+mod piece;
+mod singles;
