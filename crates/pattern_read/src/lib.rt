@@ -2,7 +2,9 @@
 #![tactic(auto)]
 
 mod byte_class;
+mod class;
 mod counts;
+mod lex;
 mod members;
 mod piece;
 mod singles;
