@@ -4,7 +4,9 @@
 mod byte_class;
 mod class;
 mod counts;
+mod group;
 mod lex;
 mod members;
 mod piece;
 mod singles;
+mod state;
