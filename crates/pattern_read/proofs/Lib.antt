@@ -1,1 +1,7 @@
+pub mod Completeness
+pub mod Going
 pub mod MembersLemmas
+pub mod Parts
+pub mod Soundness
+pub mod Splits
+pub mod Spelling

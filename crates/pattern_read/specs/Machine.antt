@@ -1,5 +1,5 @@
 -- How the reader's state moves over a piece.
-use Rattle.std.specs.Prelude.{ℕ, ◌+◌, ◌*◌, min, List, [], ◌∷◌, ◌++◌, length, nat_lt, if◌then◌else◌, Option, Some, None}
+use Rattle.std.specs.Prelude.{ℕ, ◌+◌, ◌*◌, min, List, [], ◌∷◌, ◌++◌, length, nat_lt, if◌then◌else◌, Option, Some, None, Bool, ◌≡◌}
 use Rattle.waf_model.specs.PatternGrammar.{sequence, choice}
 use Rattle.waf_model.specs.PatternPieces as pieces
 use Rattle.waf_model.specs.declared.pattern.Pattern.{Pattern, Set, Repeat}
@@ -76,3 +76,19 @@ moved s pieces.opens = if nat_lt (length s.outer) 100 then Some (record { outer 
 moved s pieces.closes = closed_into (closed s.group) (split_last s.outer)
 moved s pieces.bar = Some (record { outer = s.outer; group = barred s.group })
 moved s (pieces.count least most factor) = in_group s.outer (counted s.group least most factor)
+
+abbrev pub and_moved : pieces.Piece → Option State → Option State
+and_moved piece None = None
+and_moved piece (Some s) = moved s piece
+
+-- the state after these pieces
+abbrev pub run_from : List pieces.Piece → Option State → Option State
+run_from [] state = state
+run_from (piece ∷ more) state = run_from more (and_moved piece state)
+
+abbrev pub first : State
+first = record { outer = []; group = fresh }
+
+-- the pieces of the text lead to the state
+abbrev pub Arrives : Bool → List ℕ → State → State → Type 0
+Arrives fold text from to = (all : List pieces.Piece) × pieces.IsCut fold text all × (run_from all (Some from) ≡ Some to)

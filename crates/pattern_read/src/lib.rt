@@ -8,5 +8,8 @@ mod group;
 mod lex;
 mod members;
 mod piece;
+mod read;
 mod singles;
 mod state;
+
+pub use read::{one_spelling, read_pattern};
