@@ -1,5 +1,5 @@
 -- Matches that follow one another.
-use Rattle.std.proofs.Common.{◌≡◌, ℕ, zero, suc, ◌+◌, ◌<◌, ◌≤◌, ◌⊎◌, inl, inr, refl, sym, subst, arith, zero-add}
+use Rattle.std.proofs.Common.{◌≡◌, ℕ, zero, suc, ◌+◌, ◌<◌, ◌≤◌, inl, inr, refl, sym, subst, arith, zero-add}
 use Rattle.std.proofs.lemmas.Bool.{cases_lt}
 use Rattle.waf_model.specs.Pattern.{Times}
 
@@ -36,10 +36,11 @@ times_last R up zero i j further e = absurd (omega arith)
 times_last R up (suc n) i j further (m, one, more) =
     let within : m ≤ j = times_up R up n m j more in
     elim (cases_lt m j) [
-      inl below ↦
-        let (u, under, earlier, step) = times_last R up n m j below more in
-        let (k, front) = earlier in
-        (u, under, (suc k, (m, one, front)), step)
-    | inr above ↦
-        let same : m ≡ j = omega arith in
-        (i, further, (0, refl), subst (λ (x : ℕ). R i x) same one) ]
+      | inl below ↦
+          let (u, under, earlier, step) = times_last R up n m j below more in
+          let (k, front) = earlier in
+          (u, under, (suc k, (m, one, front)), step)
+      | inr above ↦
+          let same : m ≡ j = omega arith in
+          (i, further, (0, refl), subst (λ (x : ℕ). R i x) same one)
+    ]

@@ -1,5 +1,5 @@
 -- What the search has found out after so many steps.
-use Rattle.std.proofs.Common.{◌≡◌, ℕ, zero, suc, ◌+◌, ◌<◌, ◌≤◌, ◌⊎◌, inl, inr, List, length, Bool, true, false, ◌||◌, refl, sym, subst, arith}
+use Rattle.std.proofs.Common.{◌≡◌, ℕ, suc, ◌<◌, ◌≤◌, inl, inr, List, length, Bool, true, false, ◌||◌, sym, subst, arith}
 use Rattle.std.proofs.lemmas.Bool.{cases_lt}
 use Rattle.waf_model.specs.Pattern.{Expression, expression, Matches, Found}
 use Rattle.waf_model.specs.declared.pattern.Pattern.{Pattern}
@@ -11,7 +11,7 @@ use Rattle.pattern_match.specs.Shapes.{shape, unrolled, IsMatcherOf}
 use Rattle.pattern_match.specs.Steps.{ends_after, stepped}
 use Rattle.pattern_match.proofs.Unrolling.{forward, to_unrolled, from_unrolled}
 use Rattle.pattern_match.proofs.Tracking.{Before, Now, Tells, ByteIs, Tracks, or_parts, or_left, or_right, tracks_fresh}
-use Rattle.pattern_match.proofs.Stepping.{Steps, step, shape-stepped}
+use Rattle.pattern_match.proofs.Stepping.{step, shape-stepped}
 
 -- a match may begin at any place
 abbrev pub Anywhere : ℕ → Type 0
@@ -27,23 +27,27 @@ pub searched_first : (p : Pattern) (w : List ℕ) (m : Matcher) → IsMatcherOf 
 searched_first p w m built = record {
   shape_is = built.shape_is;
   tracks = tracks_fresh m w Anywhere built.fresh;
-  none = λ i j below h. absurd (omega arith) }
+  none = λ i j below h. absurd (omega arith);
+}
 
 -- some match ends at the new place
 ended : (E : ℕ → Type 0) (R : ℕ → ℕ → Type 0) → ((i j : ℕ) → R i j → i ≤ j) → ((k : ℕ) → E k) → (t : ℕ) (ends : Ends) →
     Tells ends.through (Before E R t) → Tells ends.empty (R t t) → Tells (ends.through || ends.empty) ((i : ℕ) × R i t)
 ended E R up all t ends through nothing = record {
   means = λ h. elim (or_parts ends.through ends.empty h) [
-      inl so ↦ let (s, below, at, one) = through.means so in (s, one)
-    | inr so ↦ (t, nothing.means so) ];
+    | inl so ↦ let (s, below, at, one) = through.means so in (s, one)
+    | inr so ↦ (t, nothing.means so)
+  ];
   shown = λ h.
-    let (i, one) = h in
-    let within : i ≤ t = up i t one in
-    elim (cases_lt i t) [
-      inl below ↦ or_left ends.through ends.empty (through.shown (i, below, all i, one))
-    | inr above ↦
-        let same : i ≡ t = omega arith in
-        or_right ends.through ends.empty (nothing.shown (subst (λ (x : ℕ). R x t) same one)) ] }
+      let (i, one) = h in
+      let within : i ≤ t = up i t one in
+      elim (cases_lt i t) [
+        | inl below ↦ or_left ends.through ends.empty (through.shown (i, below, all i, one))
+        | inr above ↦
+            let same : i ≡ t = omega arith in
+            or_right ends.through ends.empty (nothing.shown (subst (λ (x : ℕ). R x t) same one))
+      ];
+}
 
 tells_now : (p : Pattern) (w : List ℕ) (m : Matcher) (t : ℕ) (e : Bool) (b : ℕ) (place : Place) → Searched p w m t → ByteIs w t b →
     IsPlace w t place → Tells e (Now Anywhere t) →
@@ -59,14 +63,16 @@ searched_next p w m t e b place so here at entered unended = record {
   shape_is = let kept : shape (stepped m e b place) ≡ shape m = shape-stepped m e b place in let was = so.shape_is in cc;
   tracks = (step m w Anywhere t e b place here at so.tracks entered).tracks;
   none = λ i j below h. elim (cases_lt j t) [
-      inl under ↦ so.none i j under h
+    | inl under ↦ so.none i j under h
     | inr above ↦
         let same : j ≡ t = omega arith in
         let here_too : Matches w (shape m) i t =
-            subst (λ (x : Expression). Matches w x i t) (sym so.shape_is)
-              (to_unrolled w (expression p) i t (subst (λ (x : ℕ). Matches w (expression p) i x) same h)) in
+        subst (λ (x : Expression). Matches w x i t) (sym so.shape_is)
+        (to_unrolled w (expression p) i t (subst (λ (x : ℕ). Matches w (expression p) i x) same h)) in
         let shown = (tells_now p w m t e b place so here at entered).shown (i, here_too) in
-        absurd (cc) ] }
+        absurd (cc)
+  ];
+}
 
 pub found_now : (p : Pattern) (w : List ℕ) (m : Matcher) (t : ℕ) (e : Bool) (b : ℕ) (place : Place) → Searched p w m t → ByteIs w t b →
     IsPlace w t place → Tells e (Now Anywhere t) → t ≤ length w →
@@ -74,5 +80,5 @@ pub found_now : (p : Pattern) (w : List ℕ) (m : Matcher) (t : ℕ) (e : Bool) 
 found_now p w m t e b place so here at entered within here_ends =
     let (i, one) = (tells_now p w m t e b place so here at entered).means here_ends in
     let plain : Matches w (expression p) i t =
-        from_unrolled w (expression p) i t (subst (λ (x : Expression). Matches w x i t) so.shape_is one) in
+    from_unrolled w (expression p) i t (subst (λ (x : Expression). Matches w x i t) so.shape_is one) in
     (i, t, (forward w (expression p) i t plain, within, plain))

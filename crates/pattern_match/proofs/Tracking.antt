@@ -1,11 +1,9 @@
 -- What a matcher knows after so many steps: at the place one below their number.
-use Rattle.std.proofs.Common.{◌≡◌, ℕ, zero, suc, ◌+◌, ◌<◌, ◌≤◌, ◌⊎◌, inl, inr, List, Bool, true, false, ◌&&◌, ◌||◌, Option, Some, None, slice_get, refl, sym, subst, arith}
+use Rattle.std.proofs.Common.{◌≡◌, ℕ, zero, suc, ◌+◌, ◌<◌, ◌≤◌, ◌⊎◌, inl, inr, List, Bool, true, false, ◌&&◌, ◌||◌, Some, slice_get, refl, subst, arith}
 use Rattle.std.proofs.lemmas.Bool.{cases_lt}
-use Rattle.waf_model.specs.Pattern.{Expression, Matches, Times}
+use Rattle.waf_model.specs.Pattern.{Matches, Times}
 use Rattle.pattern_match.specs.declared.matcher.Ends.{Ends}
-use Rattle.pattern_match.specs.declared.place.Place.{Place}
 use Rattle.pattern_match.specs.declared.matcher.Matcher.{Matcher, Nothing, Empty, OneOf, Start, End, Final, Both', Either', Star'}
-use Rattle.pattern_match.specs.Places.{IsPlace}
 use Rattle.pattern_match.specs.Shapes.{shape, IsFresh}
 use Rattle.pattern_match.specs.Steps.{enters}
 use Rattle.pattern_match.proofs.Rounds.{times_up, times_add, times_last}
@@ -43,11 +41,11 @@ ByteIs w (suc p) b = slice_get w p ≡ Some b
 abbrev pub Tracks : Matcher → List ℕ → (ℕ → Type 0) → ℕ → Type 0
 Tracks (Both' p a ends q b) w E t =
     Tracks a w E t × Tracks b w (Reach E (Matches w (shape a))) t
-      × Tells ends.through (Now (Before E (Matches w (shape a))) t) × EmptyTells ends.empty (Matches w (shape a)) t
+    × Tells ends.through (Now (Before E (Matches w (shape a))) t) × EmptyTells ends.empty (Matches w (shape a)) t
 Tracks (Either' p a q b) w E t = Tracks a w E t × Tracks b w E t
 Tracks (Star' p a through) w E t =
     Tracks a w (Reach E (Rounds (Matches w (shape a)))) t
-      × Tells through (Now (Before (Reach E (Rounds (Matches w (shape a)))) (Matches w (shape a))) t)
+    × Tells through (Now (Before (Reach E (Rounds (Matches w (shape a)))) (Matches w (shape a))) t)
 Tracks other w E t = Unit {0}
 
 pub and_parts : (a b : Bool) → (a && b) ≡ true → (a ≡ true) × (b ≡ true)
@@ -78,9 +76,12 @@ tracks_fresh (OneOf set) w E fresh = tt
 tracks_fresh Start w E fresh = tt
 tracks_fresh End w E fresh = tt
 tracks_fresh Final w E fresh = tt
-tracks_fresh (Both' p a ends q b) w E (first, none, second) =
-    (tracks_fresh a w E first, tracks_fresh b w (Reach E (Matches w (shape a))) second,
-      record { means = λ h. cc; shown = λ h. absurd h }, tt)
+tracks_fresh (Both' p a ends q b) w E (first, none, second) = (
+  tracks_fresh a w E first,
+  tracks_fresh b w (Reach E (Matches w (shape a))) second,
+  record { means = λ h. cc; shown = λ h. absurd h },
+  tt,
+)
 tracks_fresh (Either' p a q b) w E (first, second) = (tracks_fresh a w E first, tracks_fresh b w E second)
 tracks_fresh (Star' p a through) w E (inner, none) =
     (tracks_fresh a w (Reach E (Rounds (Matches w (shape a)))) inner, record { means = λ h. cc; shown = λ h. absurd h })
@@ -91,22 +92,27 @@ pub enters_tells : (E : ℕ → Type 0) (R : ℕ → ℕ → Type 0) → ((i j :
     Tells (enters e ends) (Now (Reach E R) t)
 enters_tells E R up zero e ends entered through nothing = record {
   means = λ h. elim (or_parts ends.through (e && ends.empty) h) [
-      inl so ↦ through.means so
-    | inr so ↦ let (first, second) = and_parts e ends.empty so in entered.means first ];
-  shown = λ h. absurd h }
+    | inl so ↦ through.means so
+    | inr so ↦ let (first, second) = and_parts e ends.empty so in entered.means first
+  ];
+  shown = λ h. absurd h;
+}
 enters_tells E R up (suc p) e ends entered through nothing = record {
   means = λ h. elim (or_parts ends.through (e && ends.empty) h) [
-      inl so ↦ let (s, below, at, step) = through.means so in (s, at, step)
-    | inr so ↦ let (first, second) = and_parts e ends.empty so in (p, entered.means first, nothing.means second) ];
+    | inl so ↦ let (s, below, at, step) = through.means so in (s, at, step)
+    | inr so ↦ let (first, second) = and_parts e ends.empty so in (p, entered.means first, nothing.means second)
+  ];
   shown = λ h.
-    let (s, at, step) = h in
-    let within : s ≤ p = up s p step in
-    elim (cases_lt s p) [
-      inl below ↦ or_left ends.through (e && ends.empty) (through.shown (s, below, at, step))
-    | inr above ↦
-        let same : s ≡ p = omega arith in
-        or_right ends.through (e && ends.empty) (and_both e ends.empty
-          (entered.shown (subst E same at)) (nothing.shown (subst (λ (x : ℕ). R x p) same step))) ] }
+      let (s, at, step) = h in
+      let within : s ≤ p = up s p step in
+      elim (cases_lt s p) [
+        | inl below ↦ or_left ends.through (e && ends.empty) (through.shown (s, below, at, step))
+        | inr above ↦
+            let same : s ≡ p = omega arith in
+            or_right ends.through (e && ends.empty) (and_both e ends.empty
+            (entered.shown (subst E same at)) (nothing.shown (subst (λ (x : ℕ). R x p) same step)))
+      ];
+}
 
 -- one more match at the end
 pub one_more : (R : ℕ → ℕ → Type 0) (k s u j : ℕ) → Times R k s u → R u j → Times R (k + 1) s j
@@ -118,23 +124,27 @@ pub again_tells : (E : ℕ → Type 0) (R : ℕ → ℕ → Type 0) → ((i j : 
     Tells (e || through) (Now (Reach E (Rounds R)) t)
 again_tells E R up zero e through entered ended = record {
   means = λ h. elim (or_parts e through h) [ inl so ↦ entered.means so | inr so ↦ ended.means so ];
-  shown = λ h. absurd h }
+  shown = λ h. absurd h;
+}
 again_tells E R up (suc p) e through entered ended = record {
   means = λ h. elim (or_parts e through h) [
-      inl so ↦ (p, entered.means so, (0, refl))
+    | inl so ↦ (p, entered.means so, (0, refl))
     | inr so ↦
         let (u, below, reached, step) = ended.means so in
         let (s, at, rounds) = reached in
         let (k, all) = rounds in
-        (s, at, (k + 1, one_more R k s u p all step)) ];
+        (s, at, (k + 1, one_more R k s u p all step))
+  ];
   shown = λ h.
-    let (s, at, rounds) = h in
-    let (k, all) = rounds in
-    let within : s ≤ p = times_up R up k s p all in
-    elim (cases_lt s p) [
-      inl below ↦
-        let (u, under, front, step) = times_last R up k s p below all in
-        or_right e through (ended.shown (u, under, (s, at, front), step))
-    | inr above ↦
-        let same : s ≡ p = omega arith in
-        or_left e through (entered.shown (subst E same at)) ] }
+      let (s, at, rounds) = h in
+      let (k, all) = rounds in
+      let within : s ≤ p = times_up R up k s p all in
+      elim (cases_lt s p) [
+        | inl below ↦
+            let (u, under, front, step) = times_last R up k s p below all in
+            or_right e through (ended.shown (u, under, (s, at, front), step))
+        | inr above ↦
+            let same : s ≡ p = omega arith in
+            or_left e through (entered.shown (subst E same at))
+      ];
+}

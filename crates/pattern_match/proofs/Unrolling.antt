@@ -1,5 +1,5 @@
 -- A pattern and its unrolled form match the same.
-use Rattle.std.proofs.Common.{◌≡◌, ℕ, zero, suc, ◌+◌, ◌-◌, ◌<◌, ◌≤◌, ◌⊎◌, inl, inr, List, Bool, true, false, Option, Some, None, nat_lt, IfSome, refl, sym, subst, arith, cond}
+use Rattle.std.proofs.Common.{◌≡◌, ℕ, zero, suc, ◌+◌, ◌-◌, ◌<◌, ◌≤◌, inl, inr, List, Bool, true, false, Option, Some, None, nat_lt, refl, subst, arith, cond}
 use Rattle.std.proofs.lemmas.Bool.{ltb-true, ltb-false}
 use Rattle.waf_model.specs.Pattern.{Expression, nothing, empty, one_of, start, end, final, both, either, repeat, Matches, Times}
 use Rattle.pattern_match.specs.Shapes.{copies, up_to, repeated, unrolled}
@@ -24,7 +24,7 @@ copies_to : (w : List ℕ) (a b : Expression) (n i j : ℕ) → Matches w (copie
 copies_to w a b zero i j h = (i, refl, h)
 copies_to w a b (suc n) i j (l, one, more) =
     let (m, front, back) = copies_to w a b n l j more in
-      (m, (l, one, front), back)
+    (m, (l, one, front), back)
 
 copies_from : (w : List ℕ) (a b : Expression) (n i m j : ℕ) → Times (Matches w a) n i m → Matches w b m j → Matches w (copies n a b) i j
 copies_from w a b zero i m j e back = subst (λ (x : ℕ). Matches w b x j) e back
@@ -35,7 +35,7 @@ up_to_to w a zero i j h = (0, omega arith, h)
 up_to_to w a (suc n) i j (inl h) = (0, omega arith, h)
 up_to_to w a (suc n) i j (inr (l, one, more)) =
     let (k, below, all) = up_to_to w a n l j more in
-      (suc k, omega arith, (l, one, all))
+    (suc k, omega arith, (l, one, all))
 
 up_to_from : (w : List ℕ) (a : Expression) (n k i j : ℕ) → k ≤ n → Times (Matches w a) k i j → Matches w (up_to n a) i j
 up_to_from w a zero zero i j below h = h
@@ -65,7 +65,7 @@ repeated_from : (w : List ℕ) (a : Expression) (least : ℕ) (most : Option ℕ
 repeated_from w a least None i j (n, above, below, all) =
     let counts : n ≡ least + (n - least) = omega arith in
     let (m, front, back) =
-        times_split (Matches w a) least (n - least) i j (subst (λ (x : ℕ). Times (Matches w a) x i j) counts all) in
+    times_split (Matches w a) least (n - least) i j (subst (λ (x : ℕ). Times (Matches w a) x i j) counts all) in
     copies_from w a (repeat a 0 None) least i m j front (n - least, omega arith, tt, back)
 repeated_from w a least (Some most) i j (n, above, below, all) = by_test (nat_lt most least) refl
   where
@@ -74,9 +74,9 @@ repeated_from w a least (Some most) i j (n, above, below, all) = by_test (nat_lt
     by_test false is =
         let counts : n ≡ least + (n - least) = omega arith in
         let (m, front, back) =
-            times_split (Matches w a) least (n - least) i j (subst (λ (x : ℕ). Times (Matches w a) x i j) counts all) in
+        times_split (Matches w a) least (n - least) i j (subst (λ (x : ℕ). Times (Matches w a) x i j) counts all) in
         copies_from w a (up_to (most - least) a) least i m j front
-            (up_to_from w a (most - least) (n - least) m j (omega arith) back)
+        (up_to_from w a (most - least) (n - least) m j (omega arith) back)
 
 repeat_map : (w : List ℕ) (a b : Expression) (least : ℕ) (most : Option ℕ) → ((i j : ℕ) → Matches w a i j → Matches w b i j) →
     (i j : ℕ) → Matches w (repeat a least most) i j → Matches w (repeat b least most) i j

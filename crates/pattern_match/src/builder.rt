@@ -16,21 +16,14 @@ fn join(alloc: Global, first: Matcher, second: Matcher) -> Result<Matcher, Memor
         through: false,
         empty: false,
     };
-    Ok(Matcher::Both(
-        Box::new(alloc, first)?,
-        ends,
-        Box::new(alloc, second)?,
-    ))
+    Ok(Matcher::Both(Box::new(alloc, first)?, ends, Box::new(alloc, second)?))
 }
 
 /// One or the other.
 fn fork(alloc: Global, first: Matcher, second: Matcher) -> Result<Matcher, Memory>
     ensures { IfOk result (λ m. (a : Expression) → (b : Expression) → IsMatcherOf a first → IsMatcherOf b second → IsMatcherOf (either a b) m) }
 {
-    Ok(Matcher::Either(
-        Box::new(alloc, first)?,
-        Box::new(alloc, second)?,
-    ))
+    Ok(Matcher::Either(Box::new(alloc, first)?, Box::new(alloc, second)?))
 }
 
 /// Any number of times.

@@ -60,12 +60,30 @@ impl Matcher {
         ensures ends { result ≡ ends_after self.old entered byte place }
     {
         match self {
-            Matcher::Nothing => Ends { through: false, empty: false },
-            Matcher::Empty => Ends { through: false, empty: true },
-            Matcher::OneOf(set) => Ends { through: entered && has(set, byte), empty: false },
-            Matcher::Start => Ends { through: false, empty: place.start },
-            Matcher::End => Ends { through: false, empty: place.end },
-            Matcher::Final => Ends { through: false, empty: place.last },
+            Matcher::Nothing => Ends {
+                through: false,
+                empty: false,
+            },
+            Matcher::Empty => Ends {
+                through: false,
+                empty: true,
+            },
+            Matcher::OneOf(set) => Ends {
+                through: entered && has(set, byte),
+                empty: false,
+            },
+            Matcher::Start => Ends {
+                through: false,
+                empty: place.start,
+            },
+            Matcher::End => Ends {
+                through: false,
+                empty: place.end,
+            },
+            Matcher::Final => Ends {
+                through: false,
+                empty: place.last,
+            },
             Matcher::Both(first, ends, second) => {
                 let enters = ends.through || entered && ends.empty;
                 let front = first.advance(entered, byte, place);
@@ -87,7 +105,10 @@ impl Matcher {
             Matcher::Star(inner, through) => {
                 let ends = inner.advance(entered || *through, byte, place);
                 *through = ends.through;
-                Ends { through: ends.through, empty: true }
+                Ends {
+                    through: ends.through,
+                    empty: true,
+                }
             }
         }
     }

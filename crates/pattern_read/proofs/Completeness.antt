@@ -1,5 +1,5 @@
 -- What is written leads the reader to its group.
-use Rattle.std.proofs.Common.{◌≡◌, ℕ, suc, ◌+◌, ◌*◌, ◌<◌, ◌≤◌, max, List, [], ◌∷◌, ◌++◌, length, Bool, true, false, nat_lt, cond, Option, Some, None, refl, sym, ap, ◌∙◌, arith}
+use Rattle.std.proofs.Common.{◌≡◌, ℕ, ◌+◌, ◌*◌, ◌<◌, ◌≤◌, List, [], ◌∷◌, ◌++◌, length, Bool, nat_lt, cond, Option, Some, None, refl, ap, ◌∙◌, arith}
 use Rattle.std.proofs.lemmas.Bool.{lt-ltb}
 use Rattle.std.proofs.lemmas.List.{length-append}
 use Rattle.waf_model.specs.PatternGrammar.{Count, once, times, Written, nothing, anchored, one_of, group, barred, count_pieces, pieces, depth}
@@ -17,7 +17,8 @@ after_count g pattern places (times least most factor) = record {
   done = (machine.settled g).done;
   items = (machine.settled g).items ++ Repeat pattern least most ∷ [];
   places = machine.capped ((machine.settled g).places + machine.capped (places * factor));
-  last = None }
+  last = None;
+}
 
 -- the group once something was read
 abbrev pub after : Group → Written → Group
@@ -53,8 +54,8 @@ runs (group inner counted rest) outer g more shallow =
     let behind : List Piece = count_pieces counted (pieces rest more) in
     let closed : Atom = machine.closed (after machine.fresh inner) in
     ap (machine.run_from (pieces inner (closes ∷ behind))) (may_open outer g (omega arith))
-      ∙ runs inner (outer ++ g ∷ []) machine.fresh (closes ∷ behind) (omega arith)
-      ∙ ap (λ (o : Option (List Group × Group)). machine.run_from behind (machine.closed_into closed o)) (split_last-append outer g)
-      ∙ counts outer g closed.pattern closed.places counted (pieces rest more)
-      ∙ runs rest outer (after_count g closed.pattern closed.places counted) more (omega arith)
+    ∙ runs inner (outer ++ g ∷ []) machine.fresh (closes ∷ behind) (omega arith)
+    ∙ ap (λ (o : Option (List Group × Group)). machine.run_from behind (machine.closed_into closed o)) (split_last-append outer g)
+    ∙ counts outer g closed.pattern closed.places counted (pieces rest more)
+    ∙ runs rest outer (after_count g closed.pattern closed.places counted) more (omega arith)
 runs (barred rest) outer g more shallow = runs rest outer (machine.barred g) more shallow

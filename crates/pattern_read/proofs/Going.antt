@@ -1,7 +1,7 @@
 -- The reader's way along a text.
 use Rattle.std.proofs.Common.{◌≡◌, ℕ, List, [], ◌∷◌, Bool, Option, Some, None, refl, sym, subst, ap, ◌∙◌}
 use Rattle.waf_model.specs.PatternPieces.{Piece, piece_at, IsCut}
-use Rattle.pattern_read.specs.Machine.{moved, and_moved, run_from, Arrives}
+use Rattle.pattern_read.specs.Machine.{moved, run_from, Arrives}
 use Rattle.pattern_read.specs.declared.state.State.{State}
 
 -- what the rest leads to from here is what the whole leads to
@@ -38,19 +38,22 @@ pub going_moves : (fold : Bool) (text : List ℕ) (from : State) (rest next : Li
     Going fold text from next after
 going_moves fold text from rest next piece state after so found moves = record {
   onward = λ to h.
-    let (all, is_cut, runs) = h in
-    so.onward to (piece ∷ all, (next, found, is_cut), ap (run_from all) moves ∙ runs);
-  back = λ to h. back_from to (so.back to h) }
+      let (all, is_cut, runs) = h in
+      so.onward to (piece ∷ all, (next, found, is_cut), ap (run_from all) moves ∙ runs);
+  back = λ to h. back_from to (so.back to h);
+}
   where
     back_from : (to : State) → Arrives fold rest state to → Arrives fold next after to
     back_from to ([], is_cut, runs) =
-      let nothing : piece_at fold rest ≡ None = ap (piece_at fold) is_cut in absurd (cc)
+        let nothing : piece_at fold rest ≡ None = ap (piece_at fold) is_cut in absurd (cc)
     back_from to (p ∷ all, is_cut, runs) =
-      let (r, there, more) = is_cut in
-      let same_piece : p ≡ piece = same_piece_there p piece r next (piece_at fold rest) there found in
-      let same_rest : r ≡ next = same_rest_there p piece r next (piece_at fold rest) there found in
-      (all, subst (λ (x : List ℕ). IsCut fold x all) same_rest more,
-        sym (ap (run_from all) moves) ∙ subst (λ (x : Piece). run_from all (moved state x) ≡ Some to) same_piece runs)
+        let (r, there, more) = is_cut in
+        let same_piece : p ≡ piece = same_piece_there p piece r next (piece_at fold rest) there found in
+        let same_rest : r ≡ next = same_rest_there p piece r next (piece_at fold rest) there found in (
+          all,
+          subst (λ (x : List ℕ). IsCut fold x all) same_rest more,
+          sym (ap (run_from all) moves) ∙ subst (λ (x : Piece). run_from all (moved state x) ≡ Some to) same_piece runs,
+        )
 
 -- no piece stands there
 pub going_stuck : (fold : Bool) (text : List ℕ) (from : State) (rest : List ℕ) (state to : State) →
@@ -68,12 +71,12 @@ going_refused fold text from rest next piece state to so found refused h = stuck
   where
     stuck : Arrives fold rest state to → ⊥
     stuck ([], is_cut, runs) =
-      let nothing : piece_at fold rest ≡ None = ap (piece_at fold) is_cut in absurd (cc)
+        let nothing : piece_at fold rest ≡ None = ap (piece_at fold) is_cut in absurd (cc)
     stuck (p ∷ all, is_cut, runs) =
-      let (r, there, more) = is_cut in
-      let same_piece : p ≡ piece = same_piece_there p piece r next (piece_at fold rest) there found in
-      let none : run_from all (moved state p) ≡ None = ap (λ (x : Piece). run_from all (moved state x)) same_piece ∙ ap (run_from all) refused ∙ none_stays all in
-      absurd (cc)
+        let (r, there, more) = is_cut in
+        let same_piece : p ≡ piece = same_piece_there p piece r next (piece_at fold rest) there found in
+        let none : run_from all (moved state p) ≡ None = ap (λ (x : Piece). run_from all (moved state x)) same_piece ∙ ap (run_from all) refused ∙ none_stays all in
+        absurd (cc)
 
 -- the end of the text
 pub going_ends : (fold : Bool) (text : List ℕ) (from : State) (rest : List ℕ) (state : State) →
@@ -83,5 +86,5 @@ going_ends fold text from rest state so at_end = (so.onward state ([], at_end, r
     same : (to : State) → Arrives fold rest state to → to ≡ state
     same to ([], is_cut, runs) = cc
     same to (p ∷ all, is_cut, runs) =
-      let (r, there, more) = is_cut in
-      let nothing : piece_at fold rest ≡ None = ap (piece_at fold) at_end in absurd (cc)
+        let (r, there, more) = is_cut in
+        let nothing : piece_at fold rest ≡ None = ap (piece_at fold) at_end in absurd (cc)

@@ -1,5 +1,5 @@
 -- The members of a class, read one by one.
-use Rattle.std.proofs.Common.{◌≡◌, ℕ, zero, suc, ◌+◌, ◌<◌, ◌≤◌, List, [], ◌∷◌, ◌++◌, length, Bool, true, false, not, ◌&&◌, Option, Some, None, refl, sym, subst, ap, ◌∙◌, arith}
+use Rattle.std.proofs.Common.{◌≡◌, ℕ, zero, suc, ◌<◌, ◌≤◌, List, [], ◌∷◌, ◌++◌, length, Bool, true, false, not, ◌&&◌, Option, Some, None, refl, sym, ap, ◌∙◌, arith}
 use Rattle.std.proofs.lemmas.List.{append_assoc, append-nil}
 use Rattle.waf_model.specs.PatternPieces.{Span, begins_with, tail, joined, then_more, member_at, members_at}
 
@@ -16,7 +16,11 @@ joined-nil (Some m) = refl
 
 pub reading_begins : (text : List ℕ) → Reading text text true []
 reading_begins text = record {
-  fuel = length text; enough = omega arith; shorter = omega arith; whole = joined-nil (members_at (length text) true text) }
+  fuel = length text;
+  enough = omega arith;
+  shorter = omega arith;
+  whole = joined-nil (members_at (length text) true text);
+}
 
 joined-joined : (a b : List Span) (o : Option (List Span × List ℕ)) → joined a (joined b o) ≡ joined (a ++ b) o
 joined-joined a b None = refl
@@ -52,7 +56,8 @@ reading_moves text rest next is_first spans more so open_still found less = move
       enough = omega arith;
       shorter = let before = so.shorter in omega arith;
       whole = whole ∙ ap (joined spans) (goes_on fuel rest is_first open_still ∙ ap (then_more (members_at fuel false)) found)
-        ∙ joined-joined spans more (members_at fuel false next) }
+          ∙ joined-joined spans more (members_at fuel false next);
+    }
 
 -- the bracket
 pub reading_ends : (text rest : List ℕ) (spans : List Span) (is_first : Bool) → Reading text rest is_first spans → is_first ≡ false →

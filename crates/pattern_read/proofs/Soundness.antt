@@ -1,5 +1,5 @@
 -- Pieces that lead the reader to the end are the pieces of something written.
-use Rattle.std.proofs.Common.{◌≡◌, ℕ, zero, suc, ◌+◌, ◌*◌, ◌<◌, ◌≤◌, max, List, [], ◌∷◌, ◌++◌, length, Bool, true, false, nat_lt, cond, Option, Some, None, refl, sym, subst, ap, ◌∙◌, arith}
+use Rattle.std.proofs.Common.{◌≡◌, ℕ, suc, ◌+◌, ◌*◌, ◌<◌, ◌≤◌, List, [], ◌∷◌, ◌++◌, length, Bool, true, false, nat_lt, cond, Option, Some, None, refl, sym, ap, ◌∙◌, arith}
 use Rattle.std.proofs.lemmas.Bool.{ltb-true}
 use Rattle.std.proofs.lemmas.List.{length-append}
 use Rattle.waf_model.specs.PatternGrammar.{Count, once, times, Written, nothing, anchored, one_of, group, barred, count_pieces, pieces, depth}
@@ -65,32 +65,56 @@ stuck more to is = let none = none_stays more in absurd (cc)
 after_set : (bytes : _) (more : List Piece) (s : State) → Coming more (record { outer = s.outer; group = with_atom s.group (Set bytes) 1 }) →
     Coming (set bytes ∷ more) s
 after_set bytes more s so = record {
-  counted = once; written = one_of bytes so.counted so.written; around = so.around;
+  counted = once;
+  written = one_of bytes so.counted so.written;
+  around = so.around;
   pieces_are = ap (λ (x : List Piece). set bytes ∷ x) so.pieces_are ∙ coming_set bytes so.counted so.written so.around;
-  as_many = so.as_many; none_counted = λ h. refl; shallow = so.shallow; around_shallow = so.around_shallow }
+  as_many = so.as_many;
+  none_counted = λ h. refl;
+  shallow = so.shallow;
+  around_shallow = so.around_shallow;
+}
 
 after_anchor : (p : Pattern) (more : List Piece) (s : State) → Coming more (record { outer = s.outer; group = machine.anchored s.group p }) →
     Coming (anchor p ∷ more) s
 after_anchor p more s so = record {
-  counted = once; written = anchored p so.written; around = so.around;
+  counted = once;
+  written = anchored p so.written;
+  around = so.around;
   pieces_are = ap (λ (x : List Piece). anchor p ∷ x) (so.pieces_are ∙ ap (λ (c : Count). unread c so.written so.around) (so.none_counted refl))
-    ∙ coming_anchor p so.written so.around;
-  as_many = so.as_many; none_counted = λ h. refl; shallow = so.shallow; around_shallow = so.around_shallow }
+      ∙ coming_anchor p so.written so.around;
+  as_many = so.as_many;
+  none_counted = λ h. refl;
+  shallow = so.shallow;
+  around_shallow = so.around_shallow;
+}
 
 after_bar : (more : List Piece) (s : State) → Coming more (record { outer = s.outer; group = machine.barred s.group }) → Coming (bar ∷ more) s
 after_bar more s so = record {
-  counted = once; written = barred so.written; around = so.around;
+  counted = once;
+  written = barred so.written;
+  around = so.around;
   pieces_are = ap (λ (x : List Piece). bar ∷ x) (so.pieces_are ∙ ap (λ (c : Count). unread c so.written so.around) (so.none_counted refl))
-    ∙ coming_bar so.written so.around;
-  as_many = so.as_many; none_counted = λ h. refl; shallow = so.shallow; around_shallow = so.around_shallow }
+      ∙ coming_bar so.written so.around;
+  as_many = so.as_many;
+  none_counted = λ h. refl;
+  shallow = so.shallow;
+  around_shallow = so.around_shallow;
+}
 
 after_counted : (least : ℕ) (most : Option ℕ) (factor : ℕ) (more : List Piece) (s t : State) (atom : Atom) → s.group.last ≡ Some atom →
     t.outer ≡ s.outer → t.group.last ≡ None → Coming more t → Coming (count least most factor ∷ more) s
 after_counted least most factor more s t atom last outer none so = record {
-  counted = times least most factor; written = so.written; around = so.around;
+  counted = times least most factor;
+  written = so.written;
+  around = so.around;
   pieces_are = ap (λ (x : List Piece). count least most factor ∷ x) (so.pieces_are ∙ ap (λ (c : Count). unread c so.written so.around) (so.none_counted none))
-    ∙ coming_count least most factor so.written so.around;
-  as_many = so.as_many ∙ ap length outer; none_counted = λ h. absurd (cc); shallow = so.shallow; around_shallow = so.around_shallow }
+      ∙ coming_count least most factor so.written so.around;
+  as_many = so.as_many ∙ ap length outer;
+  none_counted = λ h. absurd (cc);
+  shallow = so.shallow;
+  around_shallow = so.around_shallow;
+}
 
 after_open : (more : List Piece) (s : State) → Coming more (opened s.outer s.group) → Coming (opens ∷ more) s
 after_open more s so = by_around so.around so.as_many so.shallow so.around_shallow
@@ -103,23 +127,40 @@ after_open more s so = by_around so.around so.as_many so.shallow so.around_shall
     by_around (r ∷ rs) as_many shallow (low, around) is =
         let longer : length (s.outer ++ s.group ∷ []) ≡ length s.outer + 1 = length-append s.outer (s.group ∷ []) in
         record {
-          counted = once; written = group so.written r.0 r.1; around = rs;
+          counted = once;
+          written = group so.written r.0 r.1;
+          around = rs;
           pieces_are = ap (λ (x : List Piece). opens ∷ x) is ∙ coming_group so.written r rs;
-          as_many = omega arith; none_counted = λ h. refl; shallow = omega arith; around_shallow = around }
+          as_many = omega arith;
+          none_counted = λ h. refl;
+          shallow = omega arith;
+          around_shallow = around;
+        }
 
 after_close : (more : List Piece) (s t : State) → length s.outer ≡ suc (length t.outer) → length s.outer ≤ 100 → Coming more t →
     Coming (closes ∷ more) s
 after_close more s t one_less within so = record {
-  counted = once; written = nothing; around = (so.counted, so.written) ∷ so.around;
+  counted = once;
+  written = nothing;
+  around = (so.counted, so.written) ∷ so.around;
   pieces_are = ap (λ (x : List Piece). closes ∷ x) so.pieces_are;
-  as_many = let many = so.as_many in omega arith; none_counted = λ h. refl;
-  shallow = let many = so.as_many in omega arith; around_shallow = (so.shallow, so.around_shallow) }
+  as_many = let many = so.as_many in omega arith;
+  none_counted = λ h. refl;
+  shallow = let many = so.as_many in omega arith;
+  around_shallow = (so.shallow, so.around_shallow);
+}
 
 pub coming : (all : List Piece) (s to : State) → length s.outer ≤ 100 → run_from all (Some s) ≡ Some to → to.outer ≡ [] → Coming all s
 coming [] s to within runs done = record {
-  counted = once; written = nothing; around = []; pieces_are = refl;
+  counted = once;
+  written = nothing;
+  around = [];
+  pieces_are = refl;
   as_many = let same : s ≡ to = cc in let none : length s.outer ≡ 0 = ap (λ (x : State). length x.outer) same ∙ ap length done in sym none;
-  none_counted = λ h. refl; shallow = omega arith; around_shallow = tt }
+  none_counted = λ h. refl;
+  shallow = omega arith;
+  around_shallow = tt;
+}
 coming (set bytes ∷ more) s to within runs done =
     after_set bytes more s (coming more (record { outer = s.outer; group = with_atom s.group (Set bytes) 1 }) to within runs done)
 coming (anchor p ∷ more) s to within runs done =
@@ -139,7 +180,7 @@ coming (opens ∷ more) s to within runs done =
     by_test false is from so = stuck more to from
 coming (closes ∷ more) s to within runs done =
     by_split (split_last s.outer) refl runs
-      (λ t fewer from. coming more t to fewer from done)
+    (λ t fewer from. coming more t to fewer from done)
   where
     by_split : (o : Option (List Group × Group)) → split_last s.outer ≡ o → run_from more (closed_into (machine.closed s.group) o) ≡ Some to →
         ((t : State) → length t.outer ≤ 100 → run_from more (Some t) ≡ Some to → Coming more t) → Coming (closes ∷ more) s
@@ -155,9 +196,15 @@ coming (count least most factor ∷ more) s to within runs done =
         ((t : State) → length t.outer ≤ 100 → run_from more (Some t) ≡ Some to → Coming more t) → Coming (count least most factor ∷ more) s
     by_last None is from so = stuck more to from
     by_last (Some atom) is from so =
-        let t : State = record { outer = s.outer; group = record {
-          done = s.group.done; items = s.group.items ++ Repeat atom.pattern least most ∷ [];
-          places = machine.capped (s.group.places + machine.capped (atom.places * factor)); last = None } } in
+        let t : State = record {
+          outer = s.outer;
+          group = record {
+            done = s.group.done;
+            items = s.group.items ++ Repeat atom.pattern least most ∷ [];
+            places = machine.capped (s.group.places + machine.capped (atom.places * factor));
+            last = None;
+          };
+        } in
         after_counted least most factor more s t atom is refl refl (so t within from)
 
 -- what leads from nothing to the end is written, not too deep
@@ -168,6 +215,7 @@ whole all to runs done = by_around so.around so.as_many so.shallow
   where
     so : Coming all machine.first
     so = coming all machine.first to (omega arith) runs done
+
     by_around : (rs : List Rest) → length rs ≡ 0 → depth so.written + length rs ≤ 100 → all ≡ unread once so.written rs →
         (w : Written) × (pieces w [] ≡ all) × (depth w ≤ 100)
     by_around [] none shallow is = (so.written, sym is, omega arith)

@@ -1,10 +1,9 @@
 -- What the reader's last state says of the text.
-use Rattle.std.proofs.Common.{◌≡◌, ℕ, ◌+◌, ◌<◌, ◌≤◌, List, [], ◌∷◌, Bool, Option, Some, None, refl, sym, subst, ap, ◌∙◌, arith}
-use Rattle.waf_model.specs.PatternGrammar.{Written, Writes, Spells, folds, unfolded, pieces, pattern_of, places, depth}
+use Rattle.std.proofs.Common.{◌≡◌, ℕ, ◌≤◌, List, [], ◌∷◌, Bool, Some, None, refl, sym, subst, ap, ◌∙◌, arith}
+use Rattle.waf_model.specs.PatternGrammar.{Written, Spells, folds, unfolded, pieces, places, depth}
 use Rattle.waf_model.specs.PatternPieces.{Piece, IsCut, piece_at}
 use Rattle.waf_model.specs.declared.pattern.Pattern.{Pattern}
-use Rattle.pattern_read.specs.Machine.{run_from, first, fresh, closed, capped, settled, Arrives}
-use Rattle.pattern_read.specs.declared.group.Atom.{Atom}
+use Rattle.pattern_read.specs.Machine.{run_from, first, fresh, closed, Arrives}
 use Rattle.pattern_read.specs.declared.group.Group.{Group}
 use Rattle.pattern_read.specs.declared.state.State.{State}
 use Rattle.pattern_read.proofs.Completeness.{after, runs}
@@ -32,12 +31,17 @@ spells text state (all, is_cut, runs_to) done few =
     let (w, is, shallow) = whole all state runs_to done in
     let reached : Some state ≡ Some (end_of w) = sym runs_to ∙ ap (λ (x : List Piece). run_from x (Some first)) (sym is) ∙ run_of w shallow in
     let same : state ≡ end_of w = cc in
-    let group_is : state.group ≡ after fresh w = ap (λ (x : State). x.group) same in
-    (all, w, is_cut, record {
-      pieces_are = is;
-      few_places = small_places w (subst (λ (g : Group). (closed g).places ≤ 2000) group_is few);
-      not_deep = shallow;
-      pattern_is = sym (ap (λ (g : Group). (closed g).pattern) group_is ∙ closed_pattern w) })
+    let group_is : state.group ≡ after fresh w = ap (λ (x : State). x.group) same in (
+      all,
+      w,
+      is_cut,
+      record {
+        pieces_are = is;
+        few_places = small_places w (subst (λ (g : Group). (closed g).places ≤ 2000) group_is few);
+        not_deep = shallow;
+        pattern_is = sym (ap (λ (g : Group). (closed g).pattern) group_is ∙ closed_pattern w);
+      },
+    )
 
 -- what a spelled text leads to
 pub record Spelled (text : List ℕ) (pattern : Pattern) (state : State) : Type 0 where
@@ -47,11 +51,15 @@ pub record Spelled (text : List ℕ) (pattern : Pattern) (state : State) : Type 
   pub pattern_is : (closed state.group).pattern ≡ pattern
 
 pub spelled : (text : List ℕ) (pattern : Pattern) → Spells text pattern → (state : State) × Spelled text pattern state
-spelled text pattern (all, w, is_cut, writes) = (end_of w, record {
-  arrives = (all, is_cut, ap (λ (x : List Piece). run_from x (Some first)) (sym writes.pieces_are) ∙ run_of w writes.not_deep);
-  closed_all = refl;
-  few = few_places w writes.few_places;
-  pattern_is = closed_pattern w ∙ writes.pattern_is })
+spelled text pattern (all, w, is_cut, writes) = (
+  end_of w,
+  record {
+    arrives = (all, is_cut, ap (λ (x : List Piece). run_from x (Some first)) (sym writes.pieces_are) ∙ run_of w writes.not_deep);
+    closed_all = refl;
+    few = few_places w writes.few_places;
+    pattern_is = closed_pattern w ∙ writes.pattern_is;
+  },
+)
 
 -- a text is cut in one way
 one_cut : (fold : Bool) (text : List ℕ) (a b : List Piece) → IsCut fold text a → IsCut fold text b → a ≡ b

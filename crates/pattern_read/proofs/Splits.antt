@@ -1,5 +1,5 @@
 -- The last of a list of groups.
-use Rattle.std.proofs.Common.{◌≡◌, ℕ, suc, List, [], ◌∷◌, ◌++◌, length, Option, Some, None, refl, ap, subst, ◌∙◌}
+use Rattle.std.proofs.Common.{◌≡◌, suc, List, [], ◌∷◌, ◌++◌, length, Option, Some, None, refl, ap, subst}
 use Rattle.pattern_read.specs.Machine.{and_last, split_last}
 use Rattle.pattern_read.specs.declared.group.Group.{Group}
 

@@ -39,7 +39,8 @@ counted_with g least most factor (Some atom) = Some (record {
   done = g.done;
   items = g.items ++ Repeat atom.pattern least most ∷ [];
   places = capped (g.places + capped (atom.places * factor));
-  last = None })
+  last = None;
+})
 
 -- the last atom, which there must be, is repeated
 abbrev pub counted : Group → ℕ → Option ℕ → ℕ → Option Group

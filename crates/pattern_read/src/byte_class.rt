@@ -1,8 +1,7 @@
 //! Classes of bytes, and the sets that they stand for.
 
 ghost use Rattle.std.specs.Prelude.{◌≡◌, ◌≤◌, if◌then◌else◌, MatchOption};
-
-ghost use Rattle.waf_model.specs.PatternPieces.{in_spans, other_case, class_has, bits, set_of, kind_spans};
+ghost use Rattle.waf_model.specs.PatternClasses.{in_spans, other_case, class_has, bits, set_of, kind_spans};
 
 use waf_model::ByteSet;
 
@@ -13,9 +12,7 @@ pub(crate) type Span = (u8, u8);
 fn is_in(spans: &[Span], byte: u8) -> bool
     ensures { result ≡ in_spans spans.now byte }
 {
-    spans
-        .iter()
-        .any(|span| span.0 <= byte && byte <= span.1)
+    spans.iter().any(|span| span.0 <= byte && byte <= span.1)
 }
 
 /// The other case of a letter, and every other byte itself.
@@ -41,7 +38,11 @@ fn has(spans: &[Span], fold: bool, negated: bool, byte: u8) -> bool
 fn bit(spans: &[Span], fold: bool, negated: bool, byte: u8) -> u128
     ensures { result ≡ (if class_has spans.now fold negated byte then 1 else 0) }
 {
-    if has(spans, fold, negated, byte) { 1 } else { 0 }
+    if has(spans, fold, negated, byte) {
+        1
+    } else {
+        0
+    }
 }
 
 /// The bits of 128 bytes from the first on, the lowest first.

@@ -22,7 +22,11 @@ fn add(alloc: Global, spans: &mut Items<Span>, member: Member) -> Result<(), Mem
 }
 
 /// Adds the spans of the members up to the bracket that closes the class, and gives the text behind it.
-fn members<'a>(alloc: Global, text: &'a [u8], spans: &mut Items<Span>) -> Result<Option<&'a [u8]>, Memory>
+fn members<'a>(
+    alloc: Global,
+    text: &'a [u8],
+    spans: &mut Items<Span>,
+) -> Result<Option<&'a [u8]>, Memory>
     requires { spans.old ≡ [] }
     ensures value { IfOk result (λ found. MatchOption found (members_at (length text.now) true text.now ≡ None) (λ rest. members_at (length text.now) true text.now ≡ Some (spans.new, rest.now))) }
     ensures within { IfOk result (λ found. MatchOption found (Unit {0}) (λ rest. length rest.now ≤ length text.now)) }
@@ -41,7 +45,12 @@ fn members<'a>(alloc: Global, text: &'a [u8], spans: &mut Items<Span>) -> Result
 }
 
 /// The set of a class, after its opening bracket and its `^`.
-fn class_body(alloc: Global, fold: bool, negated: bool, text: &[u8]) -> Result<Option<(ByteSet, &[u8])>, Memory>
+fn class_body(
+    alloc: Global,
+    fold: bool,
+    negated: bool,
+    text: &[u8],
+) -> Result<Option<(ByteSet, &[u8])>, Memory>
     ensures value { IfOk result (λ found. MatchOption found (class_set fold negated (members_at (length text.now) true text.now) ≡ None) (λ f. class_set fold negated (members_at (length text.now) true text.now) ≡ Some (set f.0, f.1.now))) }
     ensures within { IfOk result (λ found. MatchOption found (Unit {0}) (λ f. length f.1.now ≤ length text.now)) }
 {
@@ -53,7 +62,11 @@ fn class_body(alloc: Global, fold: bool, negated: bool, text: &[u8]) -> Result<O
 }
 
 /// The set of a class, after its opening bracket.
-pub(crate) fn class(alloc: Global, fold: bool, text: &[u8]) -> Result<Option<(ByteSet, &[u8])>, Memory>
+pub(crate) fn class(
+    alloc: Global,
+    fold: bool,
+    text: &[u8],
+) -> Result<Option<(ByteSet, &[u8])>, Memory>
     ensures value { IfOk result (λ found. MatchOption found (class_at fold text.now ≡ None) (λ f. class_at fold text.now ≡ Some (set f.0, f.1.now))) }
     ensures within { IfOk result (λ found. MatchOption found (Unit {0}) (λ f. length f.1.now ≤ length text.now)) }
 {

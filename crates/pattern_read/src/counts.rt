@@ -7,7 +7,6 @@ ghost use Rattle.pattern_read.specs.Seen.{times_of};
 use crate::piece::Times;
 use crate::singles::{after, begins};
 
-
 /// One more decimal digit, where one stands there.
 fn extended(number: u32, text: &[u8]) -> (u32, &[u8])
     requires { number ≤ 99 }
@@ -31,7 +30,11 @@ fn number(text: &[u8]) -> Option<(u32, &[u8])>
         [digit @ b'0'..=b'9', rest @ ..] => {
             let (tens, rest) = extended(u32::from(*digit - b'0'), rest);
             let (number, rest) = extended(tens, rest);
-            if number <= 100 { Some((number, rest)) } else { None }
+            if number <= 100 {
+                Some((number, rest))
+            } else {
+                None
+            }
         }
         _ => None,
     }
@@ -42,7 +45,11 @@ pub(crate) fn past_lazy(text: &[u8]) -> &[u8]
     ensures value { result.now ≡ without_lazy text.now }
     ensures within { length result.now ≤ length text.now }
 {
-    if begins(b'?', text) { after(text) } else { text }
+    if begins(b'?', text) {
+        after(text)
+    } else {
+        text
+    }
 }
 
 /// The rest of a count in braces after its comma: a brace, or the number at most and a brace.

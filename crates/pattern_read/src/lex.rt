@@ -26,7 +26,12 @@ fn escape_set(fold: bool, text: &[u8]) -> Option<(ByteSet, &[u8])>
 }
 
 /// The set of a byte, an escape or a class, behind its first byte.
-fn atom(alloc: Global, fold: bool, first: u8, text: &[u8]) -> Result<Option<(ByteSet, &[u8])>, Memory>
+fn atom(
+    alloc: Global,
+    fold: bool,
+    first: u8,
+    text: &[u8],
+) -> Result<Option<(ByteSet, &[u8])>, Memory>
     ensures value { IfOk result (λ found. MatchOption found (atom_at fold first text.now ≡ None) (λ f. atom_at fold first text.now ≡ Some (set f.0, f.1.now))) }
     ensures within { IfOk result (λ found. MatchOption found (Unit {0}) (λ f. length f.1.now ≤ length text.now)) }
 {
@@ -69,7 +74,12 @@ fn sign(least: u32, most: Option<u32>, text: &[u8]) -> (Piece, &[u8])
 }
 
 /// A count or an atom, behind its first byte.
-fn count_or_atom(alloc: Global, fold: bool, first: u8, text: &[u8]) -> Result<Option<(Piece, &[u8])>, Memory>
+fn count_or_atom(
+    alloc: Global,
+    fold: bool,
+    first: u8,
+    text: &[u8],
+) -> Result<Option<(Piece, &[u8])>, Memory>
     ensures value { IfOk result (λ found. MatchOption found (count_or_atom_at fold first text.now ≡ None) (λ f. count_or_atom_at fold first text.now ≡ Some (piece_of f.0, f.1.now))) }
     ensures within { IfOk result (λ found. MatchOption found (Unit {0}) (λ f. length f.1.now ≤ length text.now)) }
 {
@@ -89,7 +99,11 @@ fn count_or_atom(alloc: Global, fold: bool, first: u8, text: &[u8]) -> Result<Op
 }
 
 /// The piece at the front of a text, and what follows it.
-pub(crate) fn next_piece(alloc: Global, fold: bool, text: &[u8]) -> Result<Option<(Piece, &[u8])>, Memory>
+pub(crate) fn next_piece(
+    alloc: Global,
+    fold: bool,
+    text: &[u8],
+) -> Result<Option<(Piece, &[u8])>, Memory>
     ensures value { IfOk result (λ found. MatchOption found (piece_at fold text.now ≡ None) (λ f. piece_at fold text.now ≡ Some (piece_of f.0, f.1.now))) }
     ensures shorter { IfOk result (λ found. MatchOption found (Unit {0}) (λ f. length f.1.now < length text.now)) }
 {

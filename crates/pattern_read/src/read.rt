@@ -81,5 +81,4 @@ pub fn read_pattern(alloc: Global, text: &[u8]) -> Result<Option<Pattern>, Memor
 /// A text spells one pattern at most.
 pub fn one_spelling()
     ensures { (text : List ℕ) (a : Pattern) (b : Pattern) → Spells text a → Spells text b → a ≡ b }
-{
-}
+{}

@@ -48,7 +48,11 @@ fn opened_group(alloc: Global, state: State) -> Result<Option<State>, Memory>
 }
 
 /// The state after a piece, or nothing where the piece may not stand there.
-pub(crate) fn state_after(alloc: Global, state: State, piece: Piece) -> Result<Option<State>, Memory>
+pub(crate) fn state_after(
+    alloc: Global,
+    state: State,
+    piece: Piece,
+) -> Result<Option<State>, Memory>
     ensures { IfOk result (λ next. next ≡ moved state (piece_of piece)) }
 {
     let State { outer, group } = state;

@@ -54,7 +54,11 @@ const VECTORS: [(&[u8], &[u8], Seen); 21] = [
 #[test]
 fn vectors_are_read(rt: HostRuntime) -> Result<(), Fail> {
     for (pattern, text, wanted) in VECTORS.iter() {
-        assert_eq!(rt; outcome(rt.alloc(), pattern, text)?, *wanted, "{pattern:?} in {text:?}");
+        assert_eq!(rt;
+            outcome(rt.alloc(), pattern, text)?,
+            *wanted,
+            "{pattern:?} in {text:?}"
+        );
     }
     Ok(())
 }
@@ -79,7 +83,11 @@ const BYTES_AND_ESCAPES: [(&[u8], &[u8], Seen); 36] = [
     (b"\\xfF", b"\xff", Seen::Found),
     (b"\\x4", b"\x04", Seen::Outside),
     (b"\\xg0", b"g", Seen::Outside),
-    (b"\\\\\\^\\$\\.\\|\\?\\*\\+\\(\\)\\[\\]\\{\\}\\/\\-\\~", b"\\^$.|?*+()[]{}/-~", Seen::Found),
+    (
+        b"\\\\\\^\\$\\.\\|\\?\\*\\+\\(\\)\\[\\]\\{\\}\\/\\-\\~",
+        b"\\^$.|?*+()[]{}/-~",
+        Seen::Found,
+    ),
     (b"\\_", b"_", Seen::Found),
     (b"\\a", b"a", Seen::Outside),
     (b"\\1", b"1", Seen::Outside),
@@ -101,7 +109,11 @@ const BYTES_AND_ESCAPES: [(&[u8], &[u8], Seen); 36] = [
 #[test]
 fn bytes_and_escapes_are_read(rt: HostRuntime) -> Result<(), Fail> {
     for (pattern, text, wanted) in BYTES_AND_ESCAPES.iter() {
-        assert_eq!(rt; outcome(rt.alloc(), pattern, text)?, *wanted, "{pattern:?} in {text:?}");
+        assert_eq!(rt;
+            outcome(rt.alloc(), pattern, text)?,
+            *wanted,
+            "{pattern:?} in {text:?}"
+        );
     }
     Ok(())
 }
@@ -154,7 +166,11 @@ const CLASSES: [(&[u8], &[u8], Seen); 42] = [
 #[test]
 fn classes_are_read(rt: HostRuntime) -> Result<(), Fail> {
     for (pattern, text, wanted) in CLASSES.iter() {
-        assert_eq!(rt; outcome(rt.alloc(), pattern, text)?, *wanted, "{pattern:?} in {text:?}");
+        assert_eq!(rt;
+            outcome(rt.alloc(), pattern, text)?,
+            *wanted,
+            "{pattern:?} in {text:?}"
+        );
     }
     Ok(())
 }
@@ -183,7 +199,11 @@ const CASES: [(&[u8], &[u8], Seen); 18] = [
 #[test]
 fn cases_are_read(rt: HostRuntime) -> Result<(), Fail> {
     for (pattern, text, wanted) in CASES.iter() {
-        assert_eq!(rt; outcome(rt.alloc(), pattern, text)?, *wanted, "{pattern:?} in {text:?}");
+        assert_eq!(rt;
+            outcome(rt.alloc(), pattern, text)?,
+            *wanted,
+            "{pattern:?} in {text:?}"
+        );
     }
     Ok(())
 }
@@ -242,7 +262,11 @@ const COUNTS: [(&[u8], &[u8], Seen); 48] = [
 #[test]
 fn counts_are_read(rt: HostRuntime) -> Result<(), Fail> {
     for (pattern, text, wanted) in COUNTS.iter() {
-        assert_eq!(rt; outcome(rt.alloc(), pattern, text)?, *wanted, "{pattern:?} in {text:?}");
+        assert_eq!(rt;
+            outcome(rt.alloc(), pattern, text)?,
+            *wanted,
+            "{pattern:?} in {text:?}"
+        );
     }
     Ok(())
 }
@@ -285,7 +309,11 @@ const GROUPS: [(&[u8], &[u8], Seen); 32] = [
 #[test]
 fn groups_are_read(rt: HostRuntime) -> Result<(), Fail> {
     for (pattern, text, wanted) in GROUPS.iter() {
-        assert_eq!(rt; outcome(rt.alloc(), pattern, text)?, *wanted, "{pattern:?} in {text:?}");
+        assert_eq!(rt;
+            outcome(rt.alloc(), pattern, text)?,
+            *wanted,
+            "{pattern:?} in {text:?}"
+        );
     }
     Ok(())
 }
@@ -306,10 +334,22 @@ fn nested(alloc: Global, depth: usize) -> Result<Vec<u8>, Fail> {
 #[test]
 fn bounds_are_kept(rt: HostRuntime) -> Result<(), Fail> {
     let alloc = rt.alloc();
-    assert_eq!(rt; outcome(alloc, nested(alloc, 100)?.as_slice(), b"a")?, Seen::Found);
-    assert_eq!(rt; outcome(alloc, nested(alloc, 101)?.as_slice(), b"a")?, Seen::Outside);
-    assert_eq!(rt; outcome(alloc, b"(a{100}){19}(a{100})", b"a")?, Seen::Missed);
-    assert_eq!(rt; outcome(alloc, b"(a{100}){19}(a{99})a$", b"a")?, Seen::Outside);
+    assert_eq!(rt;
+        outcome(alloc, nested(alloc, 100)?.as_slice(), b"a")?,
+        Seen::Found
+    );
+    assert_eq!(rt;
+        outcome(alloc, nested(alloc, 101)?.as_slice(), b"a")?,
+        Seen::Outside
+    );
+    assert_eq!(rt;
+        outcome(alloc, b"(a{100}){19}(a{100})", b"a")?,
+        Seen::Missed
+    );
+    assert_eq!(rt;
+        outcome(alloc, b"(a{100}){19}(a{99})a$", b"a")?,
+        Seen::Outside
+    );
     assert_eq!(rt; outcome(alloc, b"(a{99,}){20}", b"a")?, Seen::Missed);
     assert_eq!(rt; outcome(alloc, b"(a{100,}){20}", b"a")?, Seen::Outside);
     assert_eq!(rt; outcome(alloc, b"(a{100}){20}|^", b"a")?, Seen::Outside);
@@ -320,6 +360,9 @@ fn bounds_are_kept(rt: HostRuntime) -> Result<(), Fail> {
 fn a_long_text_is_searched_at_once(rt: HostRuntime) -> Result<(), Fail> {
     let alloc = rt.alloc();
     let text = vec![in alloc; b'a'; 65536]?;
-    assert_eq!(rt; outcome(alloc, b"(a{0,99}){20}b", text.as_slice())?, Seen::Missed);
+    assert_eq!(rt;
+        outcome(alloc, b"(a{0,99}){20}b", text.as_slice())?,
+        Seen::Missed
+    );
     Ok(())
 }

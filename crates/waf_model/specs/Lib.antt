@@ -8,6 +8,7 @@ pub mod Letters
 pub mod Outcome
 pub mod Passes
 pub mod Pattern
+pub mod PatternClasses
 pub mod PatternGrammar
 pub mod PatternPieces
 pub mod Pieces

@@ -46,16 +46,16 @@ choice (one ∷ []) = one
 choice parts = Alt parts
 
 -- a further item at the front of the first alternative
-abbrev pub begin_with : Pattern → List (List Pattern) → List (List Pattern)
-begin_with item [] = (item ∷ []) ∷ []
-begin_with item (first ∷ others) = (item ∷ first) ∷ others
+abbrev pub item_first : Pattern → List (List Pattern) → List (List Pattern)
+item_first item [] = (item ∷ []) ∷ []
+item_first item (first ∷ others) = (item ∷ first) ∷ others
 
 -- the items of each alternative
 abbrev pub alternatives : Written → List (List Pattern)
 alternatives nothing = [] ∷ []
-alternatives (anchored pattern rest) = begin_with pattern (alternatives rest)
-alternatives (one_of bytes counted rest) = begin_with (repeated (Set bytes) counted) (alternatives rest)
-alternatives (group inner counted rest) = begin_with (repeated (choice (map sequence (alternatives inner))) counted) (alternatives rest)
+alternatives (anchored pattern rest) = item_first pattern (alternatives rest)
+alternatives (one_of bytes counted rest) = item_first (repeated (Set bytes) counted) (alternatives rest)
+alternatives (group inner counted rest) = item_first (repeated (choice (map sequence (alternatives inner))) counted) (alternatives rest)
 alternatives (barred rest) = [] ∷ alternatives rest
 
 -- the pattern that is written: a group is what it holds

@@ -6,7 +6,8 @@ use Rattle.pattern_match.proofs.builder.+build.Given as goal
 abbrev pub invariant-choice-loop-rest : goal.invariant-choice-loop-rest
 invariant-choice-loop-rest l = record {
   within : l.rest ≤ length l.parts;
-  built : IsMatcherOf (unrolled (any_of (map expression (drop l.rest l.parts)))) l.matcher }
+  built : IsMatcherOf (unrolled (any_of (map expression (drop l.rest l.parts)))) l.matcher;
+}
 
 abbrev pub decreases-choice-loop-rest : goal.decreases-choice-loop-rest
 decreases-choice-loop-rest l = l.rest
@@ -21,7 +22,8 @@ invariant-optional-loop l = IsMatcherOf (up_to l.counter (unrolled (expression l
 abbrev pub invariant-sequence-loop-rest : goal.invariant-sequence-loop-rest
 invariant-sequence-loop-rest l = record {
   within : l.rest ≤ length l.parts;
-  built : IsMatcherOf (unrolled (all_of (map expression (drop l.rest l.parts)))) l.matcher }
+  built : IsMatcherOf (unrolled (all_of (map expression (drop l.rest l.parts)))) l.matcher;
+}
 
 abbrev pub decreases-sequence-loop-rest : goal.decreases-sequence-loop-rest
 decreases-sequence-loop-rest l = l.rest

@@ -1,4 +1,4 @@
-use Rattle.std.proofs.Common.{ℕ, ◌+◌}
+use Rattle.std.proofs.Common.{◌+◌}
 use Rattle.pattern_match.proofs.Searching.{Searched}
 use Rattle.pattern_match.proofs.search.hits.Given as goal
 

@@ -1,7 +1,6 @@
-use Rattle.std.proofs.Common.{◌≡◌, ◌≤◌, ℕ, suc, ◌+◌, ◌-◌, ◌*◌, ◌<◌, ◌^◌, Bool, true, false, cond, List, refl, sym, subst, ◌∙◌, ap, arith, add-one, Fits, lit≤}
-use Rattle.std.specs.Int.{w128}
+use Rattle.std.proofs.Common.{◌≡◌, ◌≤◌, ℕ, suc, ◌+◌, ◌-◌, ◌*◌, ◌<◌, ◌^◌, Bool, true, false, cond, List, refl, sym, subst, arith, add-one}
 use Rattle.std.proofs.Math.Nat.{two-pow-succ, pow-le-pow_right}
-use Rattle.waf_model.specs.PatternPieces.{Span, class_has, bits}
+use Rattle.waf_model.specs.PatternClasses.{Span, class_has, bits}
 use Rattle.pattern_read.proofs.byte_class.half.Goals as goal
 
 -- the number with one bit more at its low end
@@ -31,13 +30,13 @@ loop-done-init c = record { so_far = refl; fits = omega arith }
 pub overflow_add-number : goal.overflow_add-number
 overflow_add-number c =
     let fits : 2 * c.loop-done.number + c.bit.result < 2 ^ 128 =
-        within _ _ (doubled c.loop-done.number c.bit.result c.loop-done.done c.loop-done.invariant.fits (small _ _ c.bit.ensures)) c.loop-done-test.true in
+    within _ _ (doubled c.loop-done.number c.bit.result c.loop-done.done c.loop-done.invariant.fits (small _ _ c.bit.ensures)) c.loop-done-test.true in
     omega arith
 
 pub overflow_mul-number : goal.overflow_mul-number
 overflow_mul-number c =
     let fits : 2 * c.loop-done.number + 0 < 2 ^ 128 =
-        within _ _ (doubled c.loop-done.number 0 c.loop-done.done c.loop-done.invariant.fits (omega arith)) c.loop-done-test.true in
+    within _ _ (doubled c.loop-done.number 0 c.loop-done.done c.loop-done.invariant.fits (omega arith)) c.loop-done-test.true in
     omega arith
 
 pub loop-done-preserved : goal.loop-done-preserved
@@ -45,6 +44,7 @@ loop-done-preserved c =
     let at : c.args.first + (127 - c.loop-done.done) ≡ c.args.first + (128 - suc c.loop-done.done) = omega arith in
     record {
       so_far = rw add-one (more_bits c.args.spans.now c.args.fold c.args.negated (c.args.first + (128 - suc c.loop-done.done))
-        (c.args.first + (128 - c.loop-done.done)) c.loop-done.done c.loop-done.number c.bit.result (omega arith) c.loop-done.invariant.so_far
-        (subst (λ (x : ℕ). c.bit.result ≡ cond (class_has c.args.spans.now c.args.fold c.args.negated x) 1 0) at c.bit.ensures));
-      fits = rw add-one (doubled c.loop-done.number c.bit.result c.loop-done.done c.loop-done.invariant.fits (small _ _ c.bit.ensures)) }
+          (c.args.first + (128 - c.loop-done.done)) c.loop-done.done c.loop-done.number c.bit.result (omega arith) c.loop-done.invariant.so_far
+          (subst (λ (x : ℕ). c.bit.result ≡ cond (class_has c.args.spans.now c.args.fold c.args.negated x) 1 0) at c.bit.ensures));
+      fits = rw add-one (doubled c.loop-done.number c.bit.result c.loop-done.done c.loop-done.invariant.fits (small _ _ c.bit.ensures));
+    }

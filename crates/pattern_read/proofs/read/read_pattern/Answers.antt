@@ -1,10 +1,9 @@
-use Rattle.std.proofs.Common.{◌≡◌, ℕ, ◌≤◌, List, [], Bool, true, false, refl, sym, subst, ap, ◌∙◌, arith}
-use Rattle.waf_model.specs.PatternGrammar.{Spells, folds, unfolded}
-use Rattle.waf_model.specs.declared.pattern.Pattern.{Pattern}
+use Rattle.std.proofs.Common.{◌≡◌, ℕ, ◌≤◌, List, [], Bool, true, false, sym, subst, ap, ◌∙◌, arith}
+use Rattle.waf_model.specs.PatternGrammar.{Spells}
 use Rattle.pattern_read.specs.Machine.{first, closed, Arrives}
 use Rattle.pattern_read.specs.declared.group.Atom.{Atom}
 use Rattle.pattern_read.specs.declared.state.State.{State}
-use Rattle.pattern_read.proofs.Spelling.{Spelled, spelled, spells}
+use Rattle.pattern_read.proofs.Spelling.{spelled, spells}
 use Rattle.pattern_read.proofs.read.read_pattern.Goals as goal
 
 -- the same text, as it was computed
@@ -48,6 +47,6 @@ returns c =
     let found = rw c.in-Some.is at c.in_ok-state.ensures in
     let few : c.in_ok-whole.whole.places ≤ 2000 = omega arith in
     subst (λ (a : Atom). Spells c.args.text.now a.pattern) (sym c.in_ok-whole.ensures)
-      (spells c.args.text.now c.in-Some.state (from_computed _ _ _ _ c.in-Some.state c.is_folded.ensures c.body.ensures found.0)
-        (c.is_empty.ensures.0 c.if-not-is_empty.false)
-        (subst (λ (a : Atom). a.places ≤ 2000) c.in_ok-whole.ensures few))
+    (spells c.args.text.now c.in-Some.state (from_computed _ _ _ _ c.in-Some.state c.is_folded.ensures c.body.ensures found.0)
+    (c.is_empty.ensures.0 c.if-not-is_empty.false)
+    (subst (λ (a : Atom). a.places ≤ 2000) c.in_ok-whole.ensures few))
