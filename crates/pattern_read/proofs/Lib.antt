@@ -1,6 +1,8 @@
+pub mod ClassLemmas
 pub mod Completeness
 pub mod Going
 pub mod MembersLemmas
+pub mod OrderLemmas
 pub mod Parts
 pub mod Soundness
 pub mod Splits

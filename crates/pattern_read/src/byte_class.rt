@@ -1,6 +1,7 @@
 //! Classes of bytes, and the sets that they stand for.
 
-ghost use Rattle.std.specs.Prelude.{◌≡◌, ◌≤◌, if◌then◌else◌, MatchOption};
+ghost use Rattle.std.specs.Prelude.{◌≡◌, ◌≤◌, ◌<◌, ℕ, Bool, List, if◌then◌else◌, MatchOption};
+ghost use Rattle.waf_model.specs.Pattern.{has_byte};
 ghost use Rattle.waf_model.specs.PatternClasses.{in_spans, other_case, class_has, bits, set_of, kind_spans};
 
 use waf_model::ByteSet;
@@ -81,3 +82,8 @@ pub(crate) fn kind(byte: u8) -> Option<&'static [Span]>
         _ => None,
     }
 }
+
+/// The set of a class has exactly the bytes of the class.
+pub fn set_of_a_class()
+    ensures { (spans : List (ℕ × ℕ)) (fold : Bool) (negated : Bool) (b : ℕ) → b < 256 → has_byte (set_of spans fold negated) b ≡ class_has spans fold negated b }
+{}

@@ -12,4 +12,5 @@ mod read;
 mod singles;
 mod state;
 
-pub use read::{one_spelling, read_pattern};
+pub use byte_class::set_of_a_class;
+pub use read::{one_spelling, read_pattern, spelled_is_ordered};

@@ -1,7 +1,8 @@
 //! From the text of a pattern to the pattern.
 
-ghost use Rattle.std.specs.Prelude.{◌≡◌, ℕ, List, IfOk, MatchOption};
+ghost use Rattle.std.specs.Prelude.{◌≡◌, ℕ, List, IfOk, IsTrue, MatchOption};
 ghost use Rattle.waf_model.specs.PatternGrammar.{folds, unfolded, Spells};
+ghost use Rattle.waf_model.specs.PatternOrder.{is_ordered};
 ghost use Rattle.waf_model.specs.declared.pattern.Pattern.{Pattern};
 ghost use Rattle.pattern_read.specs.Machine.{Arrives, first};
 ghost use Rattle.pattern_read.specs.declared.state.State.{State};
@@ -81,4 +82,9 @@ pub fn read_pattern(alloc: Global, text: &[u8]) -> Result<Option<Pattern>, Memor
 /// A text spells one pattern at most.
 pub fn one_spelling()
     ensures { (text : List ℕ) (a : Pattern) (b : Pattern) → Spells text a → Spells text b → a ≡ b }
+{}
+
+/// The pattern that a text spells has no repetition whose `most` is less than its `least`.
+pub fn spelled_is_ordered()
+    ensures { (text : List ℕ) (pattern : Pattern) → Spells text pattern → IsTrue (is_ordered pattern) }
 {}

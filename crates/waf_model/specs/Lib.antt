@@ -10,6 +10,7 @@ pub mod Passes
 pub mod Pattern
 pub mod PatternClasses
 pub mod PatternGrammar
+pub mod PatternOrder
 pub mod PatternPieces
 pub mod Pieces
 pub mod Prefix
