@@ -1,0 +1,27 @@
+-- The grammar of command lines (this project's own).
+use Rattle.std.specs.Prelude.{ℕ, List, [], ◌∷◌, codes, Bool, false, not, ◌&&◌, ◌==◌, if◌then◌else◌, Option, Some, None}
+use Rattle.std.specs.Str.{bytes_eq}
+use Rattle.wafreview.specs.declared.role.Role.{Role}
+use Rattle.wafreview.specs.declared.role.Role.TheVariants as roles
+
+-- a command with the names of its files
+pub data Command : Type 0 where
+  evaluate : (bundle request : List ℕ) → Command
+  review : (old new : List ℕ) → Command
+
+-- a file's name is a word that isn't empty and doesn't begin with `-`
+abbrev pub is_file_word : List ℕ → Bool
+is_file_word [] = false
+is_file_word (b ∷ bytes) = not (b == 45)
+
+-- `evaluate BUNDLE REQUEST` and `review OLD NEW`
+abbrev pub command_of : List (List ℕ) → Option Command
+command_of (word ∷ first ∷ second ∷ []) = if is_file_word first && is_file_word second
+    then (if bytes_eq word (codes "evaluate") then Some (evaluate first second)
+    else (if bytes_eq word (codes "review") then Some (review first second) else None)) else None
+command_of words = None
+
+-- the files of a command, in the order in which they are read
+abbrev pub files_of : Command → List (Role × List ℕ)
+files_of (evaluate bundle request) = (roles.Bundle, bundle) ∷ (roles.Request, request) ∷ []
+files_of (review old new) = (roles.Old, old) ∷ (roles.New, new) ∷ []

@@ -1,0 +1,16 @@
+pub mod Answer
+pub mod Answered
+pub mod AnswerOf
+pub mod CommandLine
+pub mod CommandView
+pub mod DifferentParts
+pub mod Due
+pub mod Ended
+pub mod Files
+pub mod Fronts
+pub mod Ipv4
+pub mod RequestReading
+pub mod ReviewText
+pub mod Separators
+pub mod TextParts
+pub mod Texts

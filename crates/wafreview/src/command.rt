@@ -1,0 +1,54 @@
+//! Command lines.
+
+ghost use Rattle.std.specs.Prelude.{◌≡◌, [], ◌∷◌, map, option_map, string_bytes};
+ghost use Rattle.wafreview.specs.CommandLine.{command_of as command_of_words, is_file_word as file_word};
+ghost use Rattle.wafreview.specs.CommandView.{command_view};
+
+/// A command with the names of its files.
+#[derive(Clone, Copy, Debug)]
+pub(crate) enum Command<'a> {
+    /// The outcome and the capacity of a bundle's web ACL on a request.
+    Evaluate { bundle: &'a str, request: &'a str },
+    /// Whether two revisions decide alike.
+    Review { old: &'a str, new: &'a str },
+}
+
+/// Whether the word is the name of a file: it is not empty and does not begin with `-`.
+fn is_file_word(word: &str) -> bool
+    ensures { result ≡ file_word word.now }
+{
+    match word.as_bytes() {
+        [] => false,
+        [first, ..] => *first != b'-',
+    }
+}
+
+/// The command that the words are, or none where they are outside the grammar.
+pub(crate) fn command_of(words: &[String]) -> Option<Command<'_>>
+    ensures { option_map command_view result ≡ command_of_words (map string_bytes words.now) }
+{
+    match words {
+        [word, first, second] => named(word.as_str(), first.as_str(), second.as_str()),
+        _ => None,
+    }
+}
+
+/// The command of that name on two files.
+fn named<'a>(word: &str, first: &'a str, second: &'a str) -> Option<Command<'a>>
+    ensures { option_map command_view result ≡ command_of_words (word.now ∷ first.now ∷ second.now ∷ []) }
+{
+    if !is_file_word(first) || !is_file_word(second) {
+        return None;
+    }
+    match word {
+        "evaluate" => Some(Command::Evaluate {
+            bundle: first,
+            request: second,
+        }),
+        "review" => Some(Command::Review {
+            old: first,
+            new: second,
+        }),
+        _ => None,
+    }
+}

@@ -1,0 +1,86 @@
+//! The text of a review's answer.
+
+ghost use Rattle.std.specs.Prelude.{◌≡◌, ◌++◌, codes, decimal, OnOk, IfOk};
+ghost use Rattle.waf_model.specs.Printed.{decision_name, different_text};
+ghost use Rattle.wafreview.specs.ReviewText.{review_text};
+ghost use Rattle.wafreview.specs.DifferentParts.{old_text, decisions_text, up_to_request};
+
+use crate::answers_text::push_answers;
+use crate::json_text::push_decimal;
+use crate::request_text::push_request;
+use acl_eval::decision_word;
+use parting_build::{Parting, Review};
+use std::alloc::Global;
+use waf_model::{Decision, Memory, Text};
+
+/// The lines of a review's answer, each of which ends in one newline byte. It fails only for want of memory.
+pub fn write_review(alloc: Global, review: &Review) -> Result<Text, Memory>
+    ensures { IfOk result (λ text. text ≡ review_text review.now) }
+{
+    let mut text = Text::new(alloc);
+    match review {
+        Review::Equal => text.push(b"review EQUAL\n")?,
+        Review::Different(parting) => push_parting(alloc, &mut text, parting)?,
+        Review::Undecided { made } => push_undecided(alloc, &mut text, *made)?,
+    }
+    Ok(text)
+}
+
+fn push_undecided(alloc: Global, text: &mut Text, made: u32) -> Result<(), Memory>
+    ensures { OnOk result (text.new ≡ text.old ++ (codes "review UNDECIDED " ++ decimal made ++ codes "\n")) }
+{
+    text.push(b"review UNDECIDED ")?;
+    push_decimal(alloc, text, made)?;
+    text.push(b"\n")?;
+    Ok(())
+}
+
+fn push_decision(text: &mut Text, decision: Decision) -> Result<(), Memory>
+    ensures { OnOk result (text.new ≡ text.old ++ decision_name decision) }
+{
+    text.push(decision_word(decision).as_bytes())
+}
+
+/// Writes the first three lines of DIFFERENT.
+fn push_decisions(text: &mut Text, parting: &Parting) -> Result<(), Memory>
+    ensures { OnOk result (text.new ≡ text.old ++ decisions_text parting.now.old parting.now.new) }
+{
+    push_old(text, parting.old)?;
+    text.push(b"\n")?;
+    text.push(b"new ")?;
+    push_decision(text, parting.new)?;
+    text.push(b"\n")?;
+    Ok(())
+}
+
+/// Writes DIFFERENT and the old decision.
+fn push_old(text: &mut Text, old: Decision) -> Result<(), Memory>
+    ensures { OnOk result (text.new ≡ text.old ++ old_text old) }
+{
+    text.push(b"review DIFFERENT\n")?;
+    text.push(b"old ")?;
+    push_decision(text, old)?;
+    Ok(())
+}
+
+/// Writes the lines of DIFFERENT up to the request.
+fn push_to_request(alloc: Global, text: &mut Text, parting: &Parting) -> Result<(), Memory>
+    ensures { OnOk result (text.new ≡ text.old ++ up_to_request parting.now.old parting.now.new parting.now.request) }
+{
+    push_decisions(text, parting)?;
+    text.push(b"request ")?;
+    push_request(alloc, text, &parting.request)?;
+    text.push(b"\n")?;
+    Ok(())
+}
+
+/// Writes all lines of DIFFERENT.
+fn push_parting(alloc: Global, text: &mut Text, parting: &Parting) -> Result<(), Memory>
+    ensures { OnOk result (text.new ≡ text.old ++ different_text parting.now.old parting.now.new parting.now.request parting.now.answers) }
+{
+    push_to_request(alloc, text, parting)?;
+    text.push(b"answers ")?;
+    push_answers(alloc, text, &parting.answers)?;
+    text.push(b"\n")?;
+    Ok(())
+}

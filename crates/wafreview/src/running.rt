@@ -1,0 +1,131 @@
+//! A run of the program.
+
+ghost use Rattle.std.specs.Prelude.{◌≡◌, ◌≤◌, [], ◌∷◌, ℕ, List, map, Some, IfOk, IfErr, string_bytes};
+ghost use Rattle.waf_base.specs.Counts.{Rose};
+ghost use Rattle.wafreview.specs.Answer.{HasCause};
+ghost use Rattle.wafreview.specs.Answered.{IsAnswered, Written};
+ghost use Rattle.wafreview.specs.AnswerOf.{IsDueOrMemory, ended_answer};
+ghost use Rattle.wafreview.specs.CommandLine.{command_of as command_of_words, evaluate, review};
+ghost use Rattle.waf_model.specs.WebAclReading.{web_acl_reading};
+ghost use Rattle.wafreview.specs.Due.{EvaluateDue, ReviewDue};
+ghost use Rattle.wafreview.specs.RequestReading.{request_reading};
+ghost use Rattle.wafreview.specs.declared.answer.Answer.TheVariants as answers;
+ghost use Rattle.wafreview.specs.CommandView.{command_view};
+
+use crate::answer::Answer;
+use crate::command::{Command, command_of};
+use crate::named_files::{Ended, NamedRole, TwoFiles, read_two};
+use crate::report::Report;
+use crate::reports::{evaluation_report, review_report};
+use crate::role::Role;
+use crate::status::Status;
+use crate::writing::write_answer;
+use std::alloc::Global;
+use waf_base::{Files, Memory, Sink};
+
+/// Runs the command that the words are (the program's name left out) on these files, writes its text to the sink, and
+/// says how the run ends: with the answer that is due and its text written whole, or with the first cause of another
+/// answer, in the order words, files, texts, work, writing. The whole text is made before its first byte is written.
+pub fn run<F: Files, O: Sink>(alloc: Global, words: &[String], files: &mut F, out: &mut O) -> Status
+    ensures answered { IsAnswered
+        (HasCause (F.tells files.old) (F.sure files.old) (Rose (F.faults files.old) (F.faults files.new)) (Rose (F.long_reads files.old) (F.long_reads files.new)) (command_of_words (map string_bytes words.now)))
+        (Written (O.taken out.old) (O.taken out.new) (Rose (O.faults out.old) (O.faults out.new))) result.code }
+{
+    let answer = answer_to(alloc, words, files);
+    write_answer(&answer, out)
+}
+
+/// The answer to the words.
+fn answer_to<F: Files>(alloc: Global, words: &[String], files: &mut F) -> Answer
+    ensures { HasCause (F.tells files.old) (F.sure files.old) (Rose (F.faults files.old) (F.faults files.new)) (Rose (F.long_reads files.old) (F.long_reads files.new)) (command_of_words (map string_bytes words.now)) result }
+{
+    match command_of(words) {
+        None => Answer::Usage,
+        Some(command) => answer_of(alloc, command, files),
+    }
+}
+
+/// The answer to a command.
+fn answer_of<F: Files>(alloc: Global, command: Command<'_>, files: &mut F) -> Answer
+    ensures { HasCause (F.tells files.old) (F.sure files.old) (Rose (F.faults files.old) (F.faults files.new)) (Rose (F.long_reads files.old) (F.long_reads files.new)) (Some (command_view command.entry)) result }
+{
+    match command {
+        Command::Evaluate { bundle, request } => evaluate_files(alloc, files, bundle, request),
+        Command::Review { old, new } => review_files(alloc, files, old, new),
+    }
+}
+
+/// A report as an answer.
+fn done(report: Report) -> Answer
+    ensures { result ≡ answers.Done report.code report.text }
+{
+    let Report { code, text } = report;
+    Answer::Done { code, text }
+}
+
+/// The work of `evaluate`.
+fn evaluation_answer(alloc: Global, read: &TwoFiles) -> Answer
+    ensures { IsDueOrMemory (EvaluateDue (web_acl_reading read.now.first.items) (request_reading read.now.second.items)) result }
+{
+    match evaluation_report(alloc, &read.first, &read.second) {
+        Ok(report) => done(report),
+        Err(Memory) => Answer::NoMemory,
+    }
+}
+
+/// The work of `review`.
+fn review_answer(alloc: Global, read: &TwoFiles) -> Answer
+    ensures { IsDueOrMemory (ReviewDue (web_acl_reading read.now.first.items) (web_acl_reading read.now.second.items)) result }
+{
+    match review_report(alloc, &read.first, &read.second) {
+        Ok(report) => done(report),
+        Err(Memory) => Answer::NoMemory,
+    }
+}
+
+/// The answer where the reading of files ended early.
+fn answer_at(ended: Ended) -> Answer
+    ensures { result ≡ ended_answer ended }
+{
+    match ended {
+        Ended::Unread(role) => Answer::Unread(role),
+        Ended::TooLong(role) => Answer::TooLong(role),
+        Ended::Memory => Answer::NoMemory,
+    }
+}
+
+/// The answer to `evaluate`.
+fn evaluate_files<F: Files>(alloc: Global, files: &mut F, bundle: &str, request: &str) -> Answer
+    ensures { HasCause (F.tells files.old) (F.sure files.old) (Rose (F.faults files.old) (F.faults files.new)) (Rose (F.long_reads files.old) (F.long_reads files.new)) (Some (evaluate bundle.now request.now)) result }
+{
+    let bundle = NamedRole {
+        role: Role::Bundle,
+        name: bundle,
+    };
+    let request = NamedRole {
+        role: Role::Request,
+        name: request,
+    };
+    match read_two(alloc, files, bundle, request) {
+        Ok(read) => evaluation_answer(alloc, &read),
+        Err(ended) => answer_at(ended),
+    }
+}
+
+/// The answer to `review`.
+fn review_files<F: Files>(alloc: Global, files: &mut F, old: &str, new: &str) -> Answer
+    ensures { HasCause (F.tells files.old) (F.sure files.old) (Rose (F.faults files.old) (F.faults files.new)) (Rose (F.long_reads files.old) (F.long_reads files.new)) (Some (review old.now new.now)) result }
+{
+    let old = NamedRole {
+        role: Role::Old,
+        name: old,
+    };
+    let new = NamedRole {
+        role: Role::New,
+        name: new,
+    };
+    match read_two(alloc, files, old, new) {
+        Ok(read) => review_answer(alloc, &read),
+        Err(ended) => answer_at(ended),
+    }
+}

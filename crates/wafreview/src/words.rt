@@ -1,0 +1,31 @@
+//! The words of the command line.
+
+ghost use Rattle.std.specs.Prelude.{◌≡◌, ◌⊎◌, IfErr};
+ghost use Rattle.wafreview.specs.declared.answer.Answer.TheVariants as answers;
+
+use crate::answer::Answer;
+use std::{env, io};
+
+/// The answer where the words could not be had: words that are no UTF-8 are no command, and otherwise memory was wanting.
+fn without_words(error: &io::Error) -> Answer
+    ensures { (result ≡ answers.Usage) ⊎ (result ≡ answers.NoMemory) }
+{
+    match error.kind() {
+        io::ErrorKind::InvalidData => Answer::Usage,
+        _ => Answer::NoMemory,
+    }
+}
+
+/// The words behind the program's name, or the answer where they could not be had.
+pub(crate) fn words(rt: &HostRuntime) -> Result<Vec<String>, Answer>
+    ensures { IfErr result (λ answer. (answer ≡ answers.Usage) ⊎ (answer ≡ answers.NoMemory)) }
+{
+    let all = match env::args(rt) {
+        Ok(all) => all,
+        Err(error) => return Err(without_words(&error)),
+    };
+    match all.skip(1).collect(rt.alloc()) {
+        Ok(words) => Ok(words),
+        Err(_) => Err(Answer::NoMemory),
+    }
+}
