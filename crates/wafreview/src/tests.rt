@@ -1,3 +1,5 @@
+mod printing;
+
 use crate::running::run;
 use std::alloc::Global;
 use std::test::Fail;
