@@ -1,17 +1,20 @@
 //! The words of the command line.
 
 ghost use Rattle.std.specs.Prelude.{◌≡◌, ◌⊎◌, IfErr};
+ghost use Rattle.std.specs.IoError.{error_kind};
 ghost use Rattle.wafreview.specs.declared.answer.Answer.TheVariants as answers;
 
 use crate::answer::Answer;
+use std::io::ErrorKind;
 use std::{env, io};
 
 /// The answer where the words could not be had: words that are no UTF-8 are no command, and otherwise memory was wanting.
 fn without_words(error: &io::Error) -> Answer
-    ensures { (result ≡ answers.Usage) ⊎ (result ≡ answers.NoMemory) }
+    ensures no_utf8 { error_kind error.now ≡ ErrorKind.InvalidData → result ≡ answers.Usage }
+    ensures other { (error_kind error.now ≡ ErrorKind.InvalidData → ⊥) → result ≡ answers.NoMemory }
 {
     match error.kind() {
-        io::ErrorKind::InvalidData => Answer::Usage,
+        ErrorKind::InvalidData => Answer::Usage,
         _ => Answer::NoMemory,
     }
 }
