@@ -9,3 +9,11 @@ is_name_byte b = (nat_le 65 b && nat_le b 90) || (nat_le 97 b && nat_le b 122) |
 -- a name has 1 to 128 of these
 abbrev pub is_name : List ℕ → Bool
 is_name text = nat_le 1 (length text) && nat_le (length text) 128 && list_all is_name_byte text
+
+-- a byte of a name, or `:` (AWS WAF Developer Guide, "Label syntax and naming requirements")
+abbrev pub is_label_byte : ℕ → Bool
+is_label_byte b = is_name_byte b || b == 58
+
+-- a label, or a key of labels, has 1 to 1,024 of these
+abbrev pub is_label : List ℕ → Bool
+is_label text = nat_le 1 (length text) && nat_le (length text) 1024 && list_all is_label_byte text

@@ -1,5 +1,8 @@
+pub mod AddressRange
+pub mod AddressText
 pub mod Alike
 pub mod AnswersText
+pub mod Cost
 pub mod Gives
 pub mod Holds
 pub mod Json
@@ -17,6 +20,15 @@ pub mod Prefix
 pub mod Printed
 pub mod RequestText
 pub mod Shown
+pub mod StatementCount
+pub mod TransformBytes
+pub mod TransformComments
+pub mod TransformEncodings
+pub mod TransformEntities
+pub mod TransformHex
+pub mod TransformPaths
+pub mod TransformScan
+pub mod TransformSpaces
 pub mod Transformed
 pub mod WebAcl
 pub mod WebAclReading
