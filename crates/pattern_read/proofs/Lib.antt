@@ -1,9 +1,11 @@
 pub mod ClassLemmas
 pub mod Completeness
 pub mod Going
+pub mod LeavesLemmas
 pub mod MembersLemmas
 pub mod OrderLemmas
 pub mod Parts
 pub mod Soundness
+pub mod SpelledLemmas
 pub mod Splits
 pub mod Spelling

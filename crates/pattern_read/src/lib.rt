@@ -13,4 +13,4 @@ mod singles;
 mod state;
 
 pub use byte_class::set_of_a_class;
-pub use read::{one_spelling, read_pattern, spelled_is_ordered};
+pub use read::{one_spelling, pattern_is_spelled, read_pattern, spelled_is_ordered};

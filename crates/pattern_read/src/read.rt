@@ -5,6 +5,7 @@ ghost use Rattle.waf_model.specs.PatternGrammar.{folds, unfolded, Spells};
 ghost use Rattle.waf_model.specs.PatternOrder.{is_ordered};
 ghost use Rattle.waf_model.specs.declared.pattern.Pattern.{Pattern};
 ghost use Rattle.pattern_read.specs.Machine.{Arrives, first};
+ghost use Rattle.pattern_read.specs.Spelled.{pattern_spelled};
 ghost use Rattle.pattern_read.specs.declared.state.State.{State};
 
 use crate::group::Group;
@@ -63,7 +64,8 @@ fn state_of(alloc: Global, fold: bool, text: &[u8]) -> Result<Option<State>, Mem
 /// of at most 100, at most 2,000 places, groups nested 100 deep at most. The subset of the syntax and its meaning are
 /// this project's own, after the AWS WAF Developer Guide. It fails only for want of memory.
 pub fn read_pattern(alloc: Global, text: &[u8]) -> Result<Option<Pattern>, Memory>
-    ensures { IfOk result (λ found. MatchOption found ((pattern : Pattern) → Spells text.now pattern → ⊥) (Spells text.now)) }
+    ensures grammar { IfOk result (λ found. MatchOption found ((pattern : Pattern) → Spells text.now pattern → ⊥) (Spells text.now)) }
+    ensures spelled { IfOk result (λ found. found ≡ pattern_spelled text.now) }
 {
     let Some(state) = state_of(alloc, is_folded(text), body(text))? else {
         return Ok(None);
@@ -78,6 +80,11 @@ pub fn read_pattern(alloc: Global, text: &[u8]) -> Result<Option<Pattern>, Memor
     }
     Ok(Some(whole.pattern))
 }
+
+/// The pattern that a text spells, as a function, is the one of the grammar.
+pub fn pattern_is_spelled()
+    ensures { (text : List ℕ) → MatchOption (pattern_spelled text) ((pattern : Pattern) → Spells text pattern → ⊥) (Spells text) }
+{}
 
 /// A text spells one pattern at most.
 pub fn one_spelling()
