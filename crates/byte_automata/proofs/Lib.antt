@@ -1,0 +1,16 @@
+pub mod Canonical
+pub mod Different
+pub mod Explores
+pub mod Grouping
+pub mod Marks
+pub mod Meets
+pub mod Merges
+pub mod Numbered
+pub mod Parting
+pub mod Redirects
+pub mod Renumbers
+pub mod Rows
+pub mod Runs
+pub mod Sourced
+pub mod Splitting
+pub mod Words

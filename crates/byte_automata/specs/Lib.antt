@@ -1,0 +1,14 @@
+pub mod Automaton
+pub mod Classes
+pub mod FirstReach
+pub mod Least
+pub mod Meet
+pub mod Members
+pub mod Numbers
+pub mod Places
+pub mod Row
+pub mod Shortest
+pub mod Sources
+pub mod Splitting
+pub mod Words
+pub use Rattle.sqlite_items.specs.formers

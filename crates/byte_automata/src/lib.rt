@@ -1,0 +1,37 @@
+//! Finite automata over bytes: what is asked about texts is answered on them.
+#![tactic(auto)]
+
+mod arrival;
+mod builder;
+mod classes;
+mod dfa;
+mod edge;
+mod explored;
+mod flip;
+mod groups;
+mod kind;
+mod lists;
+mod marking;
+mod meet;
+mod numbering;
+mod parts;
+mod redirected;
+mod renumbered;
+mod row;
+mod row_step;
+mod shortest;
+mod shrink;
+mod sizes;
+mod sources;
+mod state;
+mod state_pair;
+
+pub use builder::Builder;
+pub use dfa::Dfa;
+pub use edge::Edge;
+pub use shrink::same_least;
+pub use state::State;
+pub use state_pair::StatePair;
+
+#[cfg(test)]
+mod tests;
