@@ -1,0 +1,9 @@
+pub mod CommandLine
+pub mod CommentLemmas
+pub mod Digits
+pub mod Filling
+pub mod PairLemmas
+pub mod Kept
+pub mod References
+pub mod Scanning
+pub mod WhiteSpace

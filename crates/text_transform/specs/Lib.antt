@@ -1,0 +1,4 @@
+pub mod CommandLine
+pub mod Fronts
+pub mod Pairs
+pub mod Segments
