@@ -1,0 +1,5 @@
+pub mod Covering
+pub mod MergedSpans
+pub mod MoreSpans
+pub mod Searching
+pub mod Sizes
