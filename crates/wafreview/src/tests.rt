@@ -1,4 +1,5 @@
 mod printing;
+mod refusing;
 
 use crate::running::run;
 use std::alloc::Global;

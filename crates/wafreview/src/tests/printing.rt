@@ -24,7 +24,7 @@ fn request(alloc: Global) -> Result<Request, Fail> {
     Ok(Request {
         method: text(alloc, b"POST")?,
         path: text(alloc, b"/\"\\")?,
-        query: text(alloc, b"x=1")?,
+        query: text(alloc, b"x=\x08\t\n\x0c\r\x1f")?,
         headers: Items::from_vec(headers),
         body: text(alloc, b"ab")?,
         address: Address::V6(0x2001_0db8_0000_0000_0000_0000_0000_0001),
@@ -69,7 +69,7 @@ fn every_member_of_a_request_and_of_answers_is_printed(rt: HostRuntime) -> Resul
     };
     let printed = write_review(alloc, &Review::Different(parting))?;
     let wanted =
-        "review DIFFERENT\nold BLOCK\nnew CAPTCHA\nrequest {\"args\":\"x=1\",\"body\":\"YWI=\",\"clientIp\":\"2001:db8:0:0:0:0:0:1\",\"headers\":[{\"name\":\"a\",\"value\":\"v\"},{\"name\":\"b\",\"valueBase64\":\"/w==\"}],\"httpMethod\":\"POST\",\"uri\":\"/\\\"\\\\\"}\nanswers {\"Groups\":[{\"Key\":\"g\",\"Labels\":[\"awswaf:managed:x\"],\"Verdict\":\"BLOCK\"}],\"Statements\":[{\"Key\":\"s\",\"Match\":true}],\"Tokens\":[{\"ImmunityTime\":300,\"Kind\":\"CAPTCHA\",\"Valid\":false}]}\n";
+        "review DIFFERENT\nold BLOCK\nnew CAPTCHA\nrequest {\"args\":\"x=\\b\\t\\n\\f\\r\\u001f\",\"body\":\"YWI=\",\"clientIp\":\"2001:db8:0:0:0:0:0:1\",\"headers\":[{\"name\":\"a\",\"value\":\"v\"},{\"name\":\"b\",\"valueBase64\":\"/w==\"}],\"httpMethod\":\"POST\",\"uri\":\"/\\\"\\\\\"}\nanswers {\"Groups\":[{\"Key\":\"g\",\"Labels\":[\"awswaf:managed:x\"],\"Verdict\":\"BLOCK\"}],\"Statements\":[{\"Key\":\"s\",\"Match\":true}],\"Tokens\":[{\"ImmunityTime\":300,\"Kind\":\"CAPTCHA\",\"Valid\":false}]}\n";
     assert_eq!(rt; printed.bytes(), wanted.as_bytes());
     Ok(())
 }
