@@ -1,0 +1,10 @@
+pub mod Actions
+pub mod FieldNames
+pub mod Fields
+pub mod Groups
+pub mod Kinds
+pub mod Matches
+pub mod References
+pub mod Transforms
+pub mod Statements
+pub mod Tops

@@ -1,0 +1,254 @@
+//! Statements that test a part of a request.
+
+ghost use Rattle.json_view.specs.Words.{meaning};
+ghost use Rattle.serde_json.specs.View.{view};
+ghost use Rattle.statement_json.specs.Matches.{arn_at, byte_match_of, compare_at, compare_words, pattern_set_of, pattern_set_to as pattern_set_with, regex_at, regex_of, regex_on as regex_with, size_at, size_of};
+ghost use Rattle.std.specs.Prelude.{◌≡◌, ◌≤◌};
+ghost use Rattle.waf_model.specs.Cost.{match_base as base_of};
+ghost use Rattle.waf_model.specs.Gives.{Gives};
+ghost use Rattle.waf_model.specs.declared.read_fault.ReadFault.TheVariants as read_faults;
+
+use crate::encoding::Encoding;
+use crate::field::field;
+use crate::opaque::{opaque, opaque_match};
+use crate::search::{position, search};
+use crate::target::{Target, cost_of, target_of};
+use crate::transforms::transforms;
+use json_view::{copy_of, member_path, text_member, whole_member};
+use key_text::{holds_float, statement_key};
+use pattern_read::read_pattern;
+use serde_json::Value;
+use std::alloc::Global;
+use waf_model::{Compare, Pattern, Position, ReadFault, Statement, Text};
+
+// What the tests cost in web ACL capacity units, before their fields and transformations.
+const SIZE_BASE: u64 = 1;
+
+const REGEX_BASE: u64 = 3;
+
+const PATTERN_SET_BASE: u64 = 25;
+
+// The greatest length that a text is compared with, in bytes.
+const GREATEST_SIZE: u64 = 9_223_372_036_854_775_807;
+
+// The greatest length of a pattern's text, in bytes.
+const LONGEST_PATTERN: u32 = 4096;
+
+// A byte match, of the statement at `path`; its value `found` stands at `at`.
+#[tactic(auto, unfolding(crate::specs::Matches::byte_match_of))]
+pub(crate) fn byte_match(
+    alloc: Global,
+    encoding: Encoding,
+    statement: &Value,
+    found: &Value,
+    path: &Text,
+    at: &Text,
+) -> Result<Statement, ReadFault>
+    ensures { Gives read_faults.Memory (λ statement. statement) result (byte_match_of encoding (view statement.now) (view found.now) path.now at.now) }
+{
+    let search = search(alloc, encoding, found, at)?;
+    let field = field(alloc, found, at)?;
+    let listed = transforms(alloc, found, at)?;
+    let position = position(alloc, found, at)?;
+    let cost = cost_of(match_base(position), &field, &listed);
+    let target = target_of(alloc, field, &listed)?;
+    match target {
+        Some(target) => Ok(Statement::ByteMatch {
+            search,
+            field: target.field,
+            transforms: target.transforms,
+            position,
+        }),
+        None => opaque_match(alloc, encoding, &search, found, statement, Some(cost), path),
+    }
+}
+
+// What a byte match costs by where its search string must stand.
+fn match_base(position: Position) -> u64
+    ensures value { result ≡ base_of position }
+    ensures small { result ≤ 40 }
+{
+    match position {
+        Position::Exactly | Position::Starts | Position::Ends => 2,
+        Position::Contains | Position::Word => 10,
+    }
+}
+
+// A test of a length.
+#[tactic(auto, unfolding(crate::specs::Matches::size_of))]
+pub(crate) fn size_constraint(
+    alloc: Global,
+    statement: &Value,
+    found: &Value,
+    path: &Text,
+    at: &Text,
+) -> Result<Statement, ReadFault>
+    ensures { Gives read_faults.Memory (λ statement. statement) result (size_of (view statement.now) (view found.now) path.now at.now) }
+{
+    let field = field(alloc, found, at)?;
+    let op = compare(alloc, found, at)?;
+    let size = size(alloc, found, at)?;
+    let listed = transforms(alloc, found, at)?;
+    let cost = cost_of(SIZE_BASE, &field, &listed);
+    let target = target_of(alloc, field, &listed)?;
+    match target {
+        Some(target) => Ok(Statement::Size {
+            op,
+            size,
+            field: target.field,
+            transforms: target.transforms,
+        }),
+        None => opaque(alloc, statement, Some(cost), None, path),
+    }
+}
+
+// How a length is compared.
+#[tactic(auto, unfolding(crate::specs::Matches::compare_at))]
+fn compare(alloc: Global, v: &Value, path: &Text) -> Result<Compare, ReadFault>
+    ensures { Gives read_faults.Memory (λ op. op) result (compare_at (view v.now) path.now) }
+{
+    let word = text_member(alloc, v, "ComparisonOperator", path)?;
+    match compare_of(word) {
+        Some(op) => Ok(op),
+        None => Err(ReadFault::Name(member_path(alloc, path, "ComparisonOperator")?)),
+    }
+}
+
+// What the word for a comparison means.
+fn compare_of(word: &str) -> Option<Compare>
+    ensures { result ≡ meaning compare_words word.now }
+{
+    if word == "EQ" {
+        Some(Compare::Eq)
+    } else if word == "NE" {
+        Some(Compare::Ne)
+    } else if word == "LE" {
+        Some(Compare::Le)
+    } else if word == "LT" {
+        Some(Compare::Lt)
+    } else if word == "GE" {
+        Some(Compare::Ge)
+    } else if word == "GT" {
+        Some(Compare::Gt)
+    } else {
+        None
+    }
+}
+
+// The length that a text is compared with, in bytes.
+#[tactic(auto, unfolding(crate::specs::Matches::size_at))]
+fn size(alloc: Global, v: &Value, path: &Text) -> Result<u64, ReadFault>
+    ensures { Gives read_faults.Memory (λ size. size) result (size_at (view v.now) path.now) }
+{
+    let size = whole_member(alloc, v, "Size", path, 0, GREATEST_SIZE)?;
+    Ok(size)
+}
+
+// A search for a pattern.
+#[tactic(auto, unfolding(crate::specs::Matches::regex_of))]
+pub(crate) fn regex_match(
+    alloc: Global,
+    statement: &Value,
+    found: &Value,
+    path: &Text,
+    at: &Text,
+) -> Result<Statement, ReadFault>
+    ensures { Gives read_faults.Memory (λ statement. statement) result (regex_of (view statement.now) (view found.now) path.now at.now) }
+{
+    let text = regex(alloc, found, at)?;
+    let field = field(alloc, found, at)?;
+    let listed = transforms(alloc, found, at)?;
+    let cost = cost_of(REGEX_BASE, &field, &listed);
+    let target = target_of(alloc, field, &listed)?;
+    let pattern = read_pattern(alloc, text.as_bytes())?;
+    regex_on(alloc, target, pattern, statement, cost, path)
+}
+
+// A search for a pattern, unless something of it isn't evaluated.
+fn regex_on(
+    alloc: Global,
+    target: Option<Target>,
+    pattern: Option<Pattern>,
+    statement: &Value,
+    cost: u64,
+    path: &Text,
+) -> Result<Statement, ReadFault>
+    ensures { Gives read_faults.Memory (λ statement. statement) result (regex_with target pattern (view statement.now) cost path.now) }
+{
+    let Some(target) = target else {
+        return opaque(alloc, statement, Some(cost), None, path);
+    };
+    let Some(pattern) = pattern else {
+        return opaque(alloc, statement, Some(cost), None, path);
+    };
+    Ok(Statement::Regex {
+        pattern,
+        field: target.field,
+        transforms: target.transforms,
+    })
+}
+
+// The text of a pattern.
+#[tactic(auto, unfolding(crate::specs::Matches::regex_at))]
+fn regex<'a>(alloc: Global, v: &'a Value, path: &Text) -> Result<&'a str, ReadFault>
+    ensures { Gives read_faults.Memory (λ text. text.now) result (regex_at (view v.now) path.now) }
+{
+    let text = text_member(alloc, v, "RegexString", path)?;
+    if text.len() > LONGEST_PATTERN as usize {
+        return Err(ReadFault::Limit(member_path(alloc, path, "RegexString")?, LONGEST_PATTERN));
+    }
+    Ok(text)
+}
+
+// A reference to a pattern set.
+#[tactic(auto, unfolding(crate::specs::Matches::pattern_set_of))]
+pub(crate) fn pattern_set(
+    alloc: Global,
+    statement: &Value,
+    found: &Value,
+    path: &Text,
+    at: &Text,
+) -> Result<Statement, ReadFault>
+    ensures { Gives read_faults.Memory (λ statement. statement) result (pattern_set_of (view statement.now) (view found.now) path.now at.now) }
+{
+    let arn = arn(alloc, found, at)?;
+    let field = field(alloc, found, at)?;
+    let listed = transforms(alloc, found, at)?;
+    let cost = cost_of(PATTERN_SET_BASE, &field, &listed);
+    let target = target_of(alloc, field, &listed)?;
+    match target {
+        Some(target) => pattern_set_to(alloc, target, arn, statement, path),
+        None => opaque(alloc, statement, Some(cost), Some(arn), path),
+    }
+}
+
+// A reference to a pattern set, all of which is evaluated so far.
+fn pattern_set_to(
+    alloc: Global,
+    target: Target,
+    arn: Text,
+    statement: &Value,
+    path: &Text,
+) -> Result<Statement, ReadFault>
+    ensures { Gives read_faults.Memory (λ statement. statement) result (pattern_set_with target arn (view statement.now) path.now) }
+{
+    if holds_float(statement) {
+        return Err(ReadFault::Number(copy_of(alloc, path)?));
+    }
+    let source = statement_key(alloc, statement)?;
+    Ok(Statement::PatternSet {
+        arn,
+        field: target.field,
+        transforms: target.transforms,
+        source,
+    })
+}
+
+// The ARN of what a statement refers to.
+#[tactic(auto, unfolding(crate::specs::Matches::arn_at))]
+pub(crate) fn arn(alloc: Global, v: &Value, path: &Text) -> Result<Text, ReadFault>
+    ensures { Gives read_faults.Memory (λ arn. arn) result (arn_at (view v.now) path.now) }
+{
+    let arn = text_member(alloc, v, "ARN", path)?;
+    Ok(Text::of(alloc, arn.as_bytes())?)
+}
