@@ -1,1 +1,5 @@
+pub mod Before
+pub mod Conditions
+pub mod FirstInFile
+pub mod Joined
 pub mod PathMatch

@@ -95,7 +95,9 @@ fn write_unknown(alloc: Global, text: &mut Text, unknown: u32) -> Result<(), Mem
     text.push_number(alloc, u64::from(unknown))
 }
 
-fn write_capacity(alloc: Global, text: &mut Text, capacity: &Capacity) -> Result<(), Memory>
+/// Adds the line of a capacity: the known web ACL capacity units, and how many costs are unknown where some are. It fails
+/// only for want of memory.
+pub fn write_capacity(alloc: Global, text: &mut Text, capacity: &Capacity) -> Result<(), Memory>
     ensures { OnOk result (text.new ≡ text.old ++ capacity_line capacity.now) }
 {
     text.push(b"capacity ")?;

@@ -3,7 +3,7 @@ use Rattle.std.proofs.Common.{◌≡◌, ℕ, ◌<◌, List, length, true, false
 use Rattle.std.proofs.lemmas.Bool.Decides.{nat_tests}
 use Rattle.std.proofs.lemmas.Str.Pattern.{split_once_first, IsSplitOnceResult}
 use Rattle.std.specs.List.{before_first, after_first, position_or_len}
-use Rattle.waf_model.specs.WebAclReading.{after_colon}
+use Rattle.acl_json.specs.Namespaces.{after_colon}
 
 none_at : (n m : ℕ) → n ≡ m → ltb n m ≡ false
 none_at n m e = grind (arith, nat_tests)

@@ -1,7 +1,6 @@
-pub mod Ascending
-pub mod Behind
 pub mod Colons
 pub mod Priorities
-pub mod Readings
-pub mod Sound
-pub mod Tested
+pub mod Ordered
+pub mod Ascending
+pub mod Kept
+pub mod Namespaced

@@ -1,15 +1,17 @@
-//! Reads the web ACL of a bundle, as far as it is of the first form: rules that match the whole path and allow or block.
+//! Reads web ACLs and rule groups.
 #![tactic(auto)]
 
-mod actions;
-mod faults;
-mod names;
+mod defaults;
+mod heads;
+mod immunity;
+mod labels;
 mod namespaces;
+mod rule;
 mod rules;
-mod statements;
 mod web_acl;
 
-pub use web_acl::read_acl;
+pub use statement_json::Encoding;
+pub use web_acl::{acl_among, acl_of, group_among, group_of, read_acl};
 
 #[cfg(test)]
 mod tests;

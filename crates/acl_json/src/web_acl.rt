@@ -1,22 +1,22 @@
-//! Web ACLs.
+//! Web ACLs and rule groups.
 
+ghost use Rattle.acl_json.specs.WebAcls.{acl_of as acl_in, acl_reading, group_of as group_in, top_acl as top_acl_in};
 ghost use Rattle.serde_json.specs.View.{view};
-ghost use Rattle.std.specs.Prelude.{◌≡◌, ◌≤◌, IfOk, length};
+ghost use Rattle.statement_json.specs.Statements.{most_statements};
+ghost use Rattle.std.specs.Prelude.{◌≡◌, ◌+◌, ◌≤◌, [], All, IfOk, IsTrue, Some, sum_by};
+ghost use Rattle.waf_model.specs.Cost.{is_limited_top};
 ghost use Rattle.waf_model.specs.Gives.{Gives};
-ghost use Rattle.waf_model.specs.Outcome.{HasPathRules};
-ghost use Rattle.waf_model.specs.WebAcl.{IsSound, bundle_of};
-ghost use Rattle.waf_model.specs.WebAclReading.{acl_at, first_form, most_rules, nothing_referred_at, top_of, web_acl_reading};
+ghost use Rattle.waf_model.specs.StatementCount.{group_count, top_count};
+ghost use Rattle.waf_model.specs.WebAcl.{IsSound, IsSoundGroup};
 ghost use Rattle.waf_model.specs.declared.read_fault.ReadFault.TheVariants as read_faults;
 
-use crate::actions::default_action;
-use crate::faults::absent;
-use crate::names::name;
-use crate::namespaces::namespace;
-use crate::rules::rules;
+use crate::heads::{acl_head, group_head};
+use crate::rules::{group_rules, top_rules};
 use json_view::{member, member_path, parse};
 use serde_json::Value;
+use statement_json::Encoding;
 use std::alloc::Global;
-use waf_model::{Acl, ReadFault, Text};
+use waf_model::{Acl, Group, ReadFault, RegexSet, Text};
 
 // The immunity time, in seconds, where a web ACL sets none.
 const DEFAULT_IMMUNITY: u32 = 300;
@@ -24,81 +24,127 @@ const DEFAULT_IMMUNITY: u32 = 300;
 // The body limit, in bytes, where a web ACL sets none.
 const DEFAULT_BODY_LIMIT: u32 = 8192;
 
-/// The web ACL of a bundle, its rules by ascending priority. It fails where memory was wanting, with `Json` where the
-/// bytes are no JSON text, and with `NotBuilt` at `$` where the bundle is not of the first form.
-#[tactic(auto, using(crate::proofs::Sound::sound_of, crate::proofs::Sound::paths_of, crate::proofs::Sound::few_of))]
+/// The web ACL of a bundle, its rules by ascending priority, before what it refers to is looked up. It fails where
+/// memory was wanting, with `Json` where the bytes are no JSON text, and else with the first fault of `WebACL` (API type
+/// `WebACL`).
+#[tactic(auto, unfolding(crate::specs::WebAcls::acl_reading))]
 pub fn read_acl(alloc: Global, bytes: &[u8]) -> Result<Acl, ReadFault>
-    ensures reading { Gives read_faults.Memory (λ acl. acl) result (web_acl_reading bytes.now) }
     ensures sound { IfOk result IsSound }
-    ensures path_rules { IfOk result (λ acl. HasPathRules (bundle_of acl)) }
-    ensures few { IfOk result (λ acl. length acl.rules ≤ most_rules) }
-{
-    read_first_form(alloc, bytes)
-}
-
-// The web ACL of a bundle of the first form.
-#[tactic(auto, unfolding(waf_model::specs::WebAclReading::web_acl_reading))]
-fn read_first_form(alloc: Global, bytes: &[u8]) -> Result<Acl, ReadFault>
-    ensures { Gives read_faults.Memory (λ acl. acl) result (web_acl_reading bytes.now) }
+    ensures reading { Gives read_faults.Memory (λ acl. acl) result (acl_reading bytes.now) }
 {
     match parse(alloc, bytes)? {
-        Some(top) => first_form_acl(alloc, &top),
+        Some(top) => top_acl(alloc, &top),
         None => Err(ReadFault::Json),
     }
 }
 
-// The web ACL of the top object; what isn't of the first form is named as one fault.
-fn first_form_acl(alloc: Global, v: &Value) -> Result<Acl, ReadFault>
-    ensures { Gives read_faults.Memory (λ acl. acl) result (first_form (top_of (view v.now))) }
-{
-    match top_acl(alloc, v) {
-        Ok(acl) => Ok(acl),
-        Err(fault) => match fault {
-            ReadFault::Memory => Err(ReadFault::Memory),
-            _ => Err(ReadFault::NotBuilt(Text::of(alloc, b"$")?)),
-        },
-    }
-}
-
-// The web ACL of the top object, which refers to nothing.
-#[tactic(auto, unfolding(waf_model::specs::WebAclReading::top_of))]
 fn top_acl(alloc: Global, v: &Value) -> Result<Acl, ReadFault>
-    ensures { Gives read_faults.Memory (λ acl. acl) result (top_of (view v.now)) }
+    ensures sound { IfOk result IsSound }
+    ensures reading { Gives read_faults.Memory (λ acl. acl) result (top_acl_in (Some (view v.now))) }
 {
     let path = Text::of(alloc, b"$")?;
-    nothing_referred(alloc, v, &path)?;
     let found = member(alloc, v, "WebACL", &path)?;
-    acl(alloc, found, &member_path(alloc, &path, "WebACL")?)
+    let at = member_path(alloc, &path, "WebACL")?;
+    let mut seen = 0;
+    let acl = acl_of(alloc, found, &at, Encoding::Base64, &mut seen)?;
+    Ok(acl)
 }
 
-#[tactic(auto, unfolding(waf_model::specs::WebAclReading::nothing_referred_at))]
-fn nothing_referred(alloc: Global, v: &Value, path: &Text) -> Result<(), ReadFault>
-    ensures { Gives read_faults.Memory (λ nothing. nothing) result (nothing_referred_at (view v.now) path.now) }
+/// The web ACL of that value at that path, its rules by ascending priority, where `seen` statements of the bundle were
+/// read before, and are then counted on: at most 20,000. What it refers to isn't looked up. It fails for want of memory
+/// and with the first fault of the members (API type `WebACL`).
+pub fn acl_of(
+    alloc: Global,
+    v: &Value,
+    path: &Text,
+    encoding: Encoding,
+    seen: &mut u32,
+) -> Result<Acl, ReadFault>
+    requires few { seen.old ≤ most_statements }
+    ensures few { seen.new ≤ most_statements }
+    ensures counted { IfOk result (λ acl. seen.old + sum_by (λ top. top_count top.body) acl.rules ≡ seen.new) }
+    ensures sound { IfOk result IsSound }
+    ensures limited { IfOk result (λ acl. All (λ top. IsTrue (is_limited_top top.body)) acl.rules) }
+    ensures reading { Gives read_faults.Memory (λ acl. (acl, seen.new)) result (acl_in [] encoding (view v.now) path.now seen.old) }
 {
-    absent(alloc, v, "SearchStringEncoding", path)?;
-    absent(alloc, v, "IPSets", path)?;
-    absent(alloc, v, "RegexPatternSets", path)?;
-    absent(alloc, v, "ManagedCapacities", path)?;
-    absent(alloc, v, "RuleGroups", path)
+    let acl = acl_among(alloc, v, path, &[], encoding, seen)?;
+    Ok(acl)
 }
 
-#[tactic(auto, unfolding(waf_model::specs::WebAclReading::acl_at))]
-fn acl(alloc: Global, v: &Value, path: &Text) -> Result<Acl, ReadFault>
-    ensures { Gives read_faults.Memory (λ acl. acl) result (acl_at (view v.now) path.now) }
+/// The same where the bundle has these pattern sets: a reference to a set that has a text outside the subset is an answer,
+/// and the key of each reference that is an answer has the patterns of its set.
+#[tactic(auto, unfolding(crate::specs::WebAcls::acl_of))]
+pub fn acl_among(
+    alloc: Global,
+    v: &Value,
+    path: &Text,
+    sets: &[RegexSet],
+    encoding: Encoding,
+    seen: &mut u32,
+) -> Result<Acl, ReadFault>
+    requires few { seen.old ≤ most_statements }
+    ensures few { seen.new ≤ most_statements }
+    ensures counted { IfOk result (λ acl. seen.old + sum_by (λ top. top_count top.body) acl.rules ≡ seen.new) }
+    ensures sound { IfOk result IsSound }
+    ensures limited { IfOk result (λ acl. All (λ top. IsTrue (is_limited_top top.body)) acl.rules) }
+    ensures reading { Gives read_faults.Memory (λ acl. (acl, seen.new)) result (acl_in sets.now encoding (view v.now) path.now seen.old) }
 {
-    let name = name(alloc, v, path)?;
-    let namespace = namespace(alloc, v, &name, path)?;
-    let default = default_action(alloc, v, path)?;
-    absent(alloc, v, "CaptchaConfig", path)?;
-    absent(alloc, v, "ChallengeConfig", path)?;
-    let rules = rules(alloc, v, path)?;
+    let head = acl_head(alloc, v, path)?;
+    let rules = top_rules(alloc, sets, encoding, v, path, seen)?;
     Ok(Acl {
-        name,
-        namespace,
-        default,
-        captcha: DEFAULT_IMMUNITY,
-        challenge: DEFAULT_IMMUNITY,
+        name: head.name,
+        namespace: head.namespace,
+        default: head.default,
+        captcha: head.captcha.unwrap_or(DEFAULT_IMMUNITY),
+        challenge: head.challenge.unwrap_or(DEFAULT_IMMUNITY),
         body_limit: DEFAULT_BODY_LIMIT,
+        rules,
+    })
+}
+
+/// The rule group of that value at that path, its rules by ascending priority, where `seen` statements of the bundle
+/// were read before, and are then counted on: at most 20,000. What it refers to isn't looked up. It fails for want of
+/// memory and with the first fault of the members (API type `RuleGroup`).
+pub fn group_of(
+    alloc: Global,
+    v: &Value,
+    path: &Text,
+    encoding: Encoding,
+    seen: &mut u32,
+) -> Result<Group, ReadFault>
+    requires few { seen.old ≤ most_statements }
+    ensures few { seen.new ≤ most_statements }
+    ensures counted { IfOk result (λ group. seen.old + group_count group ≡ seen.new) }
+    ensures sound { IfOk result IsSoundGroup }
+    ensures reading { Gives read_faults.Memory (λ group. (group, seen.new)) result (group_in [] encoding (view v.now) path.now seen.old) }
+{
+    let group = group_among(alloc, v, path, &[], encoding, seen)?;
+    Ok(group)
+}
+
+/// The same where the bundle has these pattern sets.
+#[tactic(auto, unfolding(crate::specs::WebAcls::group_of))]
+pub fn group_among(
+    alloc: Global,
+    v: &Value,
+    path: &Text,
+    sets: &[RegexSet],
+    encoding: Encoding,
+    seen: &mut u32,
+) -> Result<Group, ReadFault>
+    requires few { seen.old ≤ most_statements }
+    ensures few { seen.new ≤ most_statements }
+    ensures counted { IfOk result (λ group. seen.old + group_count group ≡ seen.new) }
+    ensures sound { IfOk result IsSoundGroup }
+    ensures reading { Gives read_faults.Memory (λ group. (group, seen.new)) result (group_in sets.now encoding (view v.now) path.now seen.old) }
+{
+    let head = group_head(alloc, v, path)?;
+    let rules = group_rules(alloc, sets, encoding, &head.name, v, path, seen)?;
+    Ok(Group {
+        arn: head.arn,
+        name: head.name,
+        namespace: head.namespace,
+        capacity: head.capacity,
         rules,
     })
 }

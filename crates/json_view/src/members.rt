@@ -7,7 +7,7 @@ ghost use Rattle.std.specs.Prelude.{◌≡◌, map, option_map};
 ghost use Rattle.waf_model.specs.Gives.{GivesAs};
 ghost use Rattle.waf_model.specs.Json.{is_null as null_data, is_object as object_data, list_at, member_at, member_count as members_there, optional_at, present, present_members};
 ghost use Rattle.serde_json.specs.Find.{get};
-ghost use Rattle.waf_model.specs.WebAclReading.{is_there as there_in};
+ghost use Rattle.json_view.specs.Words.{is_there as there_in};
 
 use crate::fault::{ViewFault, shape};
 use crate::path::member_path;

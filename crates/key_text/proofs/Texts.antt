@@ -4,8 +4,8 @@ use Rattle.std.proofs.lemmas.Bool.{or_parts}
 use Rattle.std.specs.Str.{bytes_eq}
 use Rattle.json.specs.Print.{quoted}
 use Rattle.key_text.specs.Edited.{edited_text, rate_members, written_member}
-use Rattle.key_text.specs.Keys.{IsTextOf, rate_statement, other_members, changed_members, without, with_value}
-use Rattle.serde_json.specs.Data.{Data, null, boolean, number, string, array, object, Members, no_members, member}
+use Rattle.key_text.specs.Keys.{IsTextOf, rate_statement, other_members, changed_members, without, with_member, with_value}
+use Rattle.serde_json.specs.Data.{Data, null, boolean, number, string, array, object, Members, no_members, member, put}
 use Rattle.serde_json.specs.Find.{as_object}
 use Rattle.serde_json.specs.Written.{compact_text, comma_if, has_float, members_have_float, members_text}
 
@@ -87,3 +87,15 @@ pub rate_written : (group rule : List ℕ) (statement : Data) {quoted_group quot
     → key ≡ rate_members quoted_group quoted_rule written → IsTextOf key (rate_statement group rule statement)
 rate_written group rule statement as_group as_rule as_statement as_key =
     λ whole. as_key ∙ rw (as_group, as_rule, as_statement (or_parts (has_float statement) false whole).0) refl
+
+pub object_put : (name : List ℕ) (value d : Data) (ms : Members) (text : List ℕ) → Some ms ≡ as_object d → (members_have_float ms ≡ false → text ≡ 123 ∷ members_text false (put name value ms))
+    → has_float d ≡ false → text ≡ compact_text (with_member name value d)
+object_put name value null ms text e is whole = cc
+object_put name value (boolean b) ms text e is whole = cc
+object_put name value (number n) ms text e is whole = cc
+object_put name value (string s) ms text e is whole = cc
+object_put name value (array ds) ms text e is whole = cc
+object_put name value (object ns) ms text e is whole =
+    let same : ms ≡ ns = cc in
+    let there : members_have_float ns ≡ false → text ≡ 123 ∷ members_text false (put name value ns) = rw same at is in
+    there whole

@@ -3,8 +3,8 @@
 use Rattle.std.specs.Prelude.{ℕ, List, [], ◌∷◌, ◌++◌, Bool, true, false, ◌||◌, if◌then◌else◌, Option, Some, None, codes}
 use Rattle.std.specs.Str.{bytes_eq}
 use Rattle.json.specs.Print.{quoted}
-use Rattle.serde_json.specs.Data.{Members, no_members, member}
-use Rattle.serde_json.specs.Written.{compact_text, has_float, comma_if}
+use Rattle.serde_json.specs.Data.{Data, Members, no_members, member, put}
+use Rattle.serde_json.specs.Written.{compact_text, has_float, comma_if, members_text}
 
 -- a value holds a float, where `other` says whether the value for that name does
 abbrev pub edited_has_float : Bool → List ℕ → Members → Bool
@@ -28,3 +28,8 @@ rate_members group rule statement =
     123 ∷ written_member false (codes "Group") (Some group)
     (λ after. written_member after (codes "Rule") (Some rule)
     (λ last. written_member last (codes "Statement") (Some statement) (λ _. 125 ∷ [])))
+
+-- the members that are left as they are written, with the closing bracket and, where it isn't placed yet, with that value
+-- for the member of that name
+abbrev pub rest_text : Bool → Bool → List ℕ → Data → Members → List ℕ
+rest_text placed later name value ms = members_text later (if placed then ms else put name value ms)

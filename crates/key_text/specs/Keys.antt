@@ -1,8 +1,8 @@
 -- The keys of questions that are answered from outside (this project's own): compact JSON texts with members in
 -- ascending order, as a value that was read has them, null members among them.
-use Rattle.std.specs.Prelude.{◌≡◌, ℕ, List, codes, false, if◌then◌else◌}
+use Rattle.std.specs.Prelude.{◌≡◌, ℕ, List, [], ◌∷◌, codes, false, if◌then◌else◌}
 use Rattle.std.specs.Str.{bytes_eq}
-use Rattle.serde_json.specs.Data.{Data, string, object, Members, no_members, member}
+use Rattle.serde_json.specs.Data.{Data, string, array, object, Items, no_items, item, Members, no_members, member, put}
 use Rattle.serde_json.specs.Written.{compact_text, has_float}
 
 -- the members but those of that name
@@ -32,6 +32,20 @@ unscoped kind found d = with_value kind (without (codes "ScopeDownStatement") fo
 -- a byte match, whose value is `found`, with that text for its search string
 abbrev pub with_search : List ℕ → Data → Data → Data
 with_search text found d = with_value (codes "ByteMatchStatement") (with_value (codes "SearchString") (string text) found) d
+
+-- an object with that value for the member of that name: in place of the one it has, or else among the others by name
+abbrev pub with_member : List ℕ → Data → Data → Data
+with_member name value (object ms) = object (put name value ms)
+with_member name value d = d
+
+-- texts as the elements of a JSON list
+abbrev pub text_items : List (List ℕ) → Items
+text_items [] = no_items
+text_items (text ∷ texts) = item (string text) (text_items texts)
+
+-- a reference to a pattern set with the patterns of the set beside it, in place of a null member of that name
+abbrev pub with_patterns : List (List ℕ) → Data → Data
+with_patterns texts d = with_member (codes "RegularExpressionList") (array (text_items texts)) d
 
 -- what the key of a rate-based statement tells: the name of the rule's group, empty for a rule of a web ACL, the rule's
 -- name, and the statement

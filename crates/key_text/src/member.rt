@@ -1,11 +1,12 @@
 //! The text of an object of which one member has another value, or none.
 
+ghost use Rattle.json.specs.Print.{quoted};
 ghost use Rattle.key_text.specs.Edited.{edited_text, written_member};
 ghost use Rattle.key_text.specs.Keys.{IsTextOf, other_members, with_value, without};
 ghost use Rattle.serde_json.specs.Data.{Data};
 ghost use Rattle.serde_json.specs.View.{members_view, view};
-ghost use Rattle.serde_json.specs.Written.{members_have_float};
-ghost use Rattle.std.specs.Prelude.{◌≡◌, ◌++◌, ◌∷◌, ℕ, List, Bool, false, IfOk, option_map};
+ghost use Rattle.serde_json.specs.Written.{comma_if, members_have_float};
+ghost use Rattle.std.specs.Prelude.{◌≡◌, ◌++◌, ◌∷◌, ℕ, List, Bool, false, IfOk, OnOk, option_map};
 
 use crate::quotation::{quotation, text_of};
 use serde_json::{Map, Value};
@@ -83,13 +84,26 @@ pub(crate) fn push_member(
     match written {
         None => Ok(later),
         Some(value) => {
-            if later {
-                text.push(b",")?;
-            }
-            text.push(quotation(alloc, name)?.bytes())?;
-            text.push(b":")?;
-            text.push(value.bytes())?;
+            push_written(alloc, text, later, name, value)?;
             Ok(true)
         }
     }
+}
+
+// Adds a member whose value is written so; `later` says whether one stands before.
+pub(crate) fn push_written(
+    alloc: Global,
+    text: &mut Text,
+    later: bool,
+    name: &str,
+    value: &Text,
+) -> Result<(), Memory>
+    ensures { OnOk result (text.new ≡ text.old ++ (comma_if later ++ (quoted name.now ++ 58 ∷ value.now))) }
+{
+    if later {
+        text.push(b",")?;
+    }
+    text.push(quotation(alloc, name)?.bytes())?;
+    text.push(b":")?;
+    text.push(value.bytes())
 }

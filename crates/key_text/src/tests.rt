@@ -1,6 +1,6 @@
 use crate::{
-    holds_float, rate_key, search_holds_float, search_key, statement_key, unscoped_holds_float,
-    unscoped_key,
+    holds_float, patterns_key, rate_key, search_holds_float, search_key, statement_key,
+    unscoped_holds_float, unscoped_key,
 };
 use serde_json::{Value, json};
 use std::alloc::Global;
@@ -194,6 +194,83 @@ fn numbers_that_are_not_whole_are_found_outside_of_the_scope_down_statement(
         assert_eq!(rt; unscoped_holds_float(kind, &found, &beside), true);
         let search = json!(in alloc; {"ByteMatchStatement": &found})?;
         assert_eq!(rt; search_holds_float(&found, &search), *whole);
+    }
+    Ok(())
+}
+
+// The key of a reference to a pattern set of these texts.
+fn key_among(alloc: Global, texts: &[&[u8]], statement: &str) -> Result<Text, Fail> {
+    let statement = Value::from_str(alloc, statement)?;
+    let mut all = Vec::new(alloc);
+    for text in texts {
+        all.push(Text::of(alloc, text)?)?;
+    }
+    Ok(patterns_key(alloc, &all, &statement)?)
+}
+
+#[test]
+fn the_patterns_of_a_set_stand_among_the_members_by_name(rt: HostRuntime) -> Result<(), Fail> {
+    let one: &[&[u8]] = &[b"a"];
+    let reference = "{\"RegexPatternSetReferenceStatement\":{\"ARN\":\"a\"}}";
+    let rows: [(&[&[u8]], &str, &[u8]); 12] = [
+        // behind the reference; none, and more, byte for byte
+        (
+            &[],
+            reference,
+            b"{\"RegexPatternSetReferenceStatement\":{\"ARN\":\"a\"},\"RegularExpressionList\":[]}",
+        ),
+        (
+            &[b"a", b"a", b""],
+            reference,
+            b"{\"RegexPatternSetReferenceStatement\":{\"ARN\":\"a\"},\"RegularExpressionList\":[\"a\",\"a\",\"\"]}",
+        ),
+        (
+            &[b"\"\\/", b"\x00\x1f\x7f\x0a", b"\xff\xc3\xa9"],
+            reference,
+            b"{\"RegexPatternSetReferenceStatement\":{\"ARN\":\"a\"},\"RegularExpressionList\":[\"\\\"\\\\/\",\"\\u0000\\u001f\x7f\\n\",\"\xff\xc3\xa9\"]}",
+        ),
+        // in place of a member of that name, whatever its value
+        (
+            one,
+            "{\"RegularExpressionList\":null,\"RegexPatternSetReferenceStatement\":{}}",
+            b"{\"RegexPatternSetReferenceStatement\":{},\"RegularExpressionList\":[\"a\"]}",
+        ),
+        (
+            one,
+            "{\"RegularExpressionList\":[1,2],\"XssMatchStatement\":null}",
+            b"{\"RegularExpressionList\":[\"a\"],\"XssMatchStatement\":null}",
+        ),
+        // one inside the reference stays
+        (
+            one,
+            "{\"RegexPatternSetReferenceStatement\":{\"RegularExpressionList\":null}}",
+            b"{\"RegexPatternSetReferenceStatement\":{\"RegularExpressionList\":null},\"RegularExpressionList\":[\"a\"]}",
+        ),
+        // null members beside it stay, and it stands among them
+        (
+            one,
+            "{\"XssMatchStatement\":null,\"RegularExpressionLists\":null,\"RegularExpressionLis\":null,\"RegexPatternSetReferenceStatement\":{},\"AndStatement\":null}",
+            b"{\"AndStatement\":null,\"RegexPatternSetReferenceStatement\":{},\"RegularExpressionLis\":null,\"RegularExpressionList\":[\"a\"],\"RegularExpressionLists\":null,\"XssMatchStatement\":null}",
+        ),
+        // alone, before and behind all others
+        (one, "{}", b"{\"RegularExpressionList\":[\"a\"]}"),
+        (
+            one,
+            "{\"Z\":1,\"a\":2}",
+            b"{\"RegularExpressionList\":[\"a\"],\"Z\":1,\"a\":2}",
+        ),
+        (
+            one,
+            "{\"A\":1,\"\":2}",
+            b"{\"\":2,\"A\":1,\"RegularExpressionList\":[\"a\"]}",
+        ),
+        // what is no object is written as it is
+        (one, "[null,{}]", b"[null,{}]"),
+        (one, "null", b"null"),
+    ];
+    for (texts, statement, key) in &rows {
+        let found = key_among(rt.alloc(), texts, statement)?;
+        assert_eq!(rt; found.bytes(), *key, "{statement}");
     }
     Ok(())
 }

@@ -1,2 +1,3 @@
 pub mod PathOnly
+pub mod PlainForm
 pub mod Unnamed

@@ -11,8 +11,8 @@ use Rattle.std.specs.Str.{bytes_eq}
 use Rattle.acl_eval.proofs.PathMatch.{holds_is}
 use Rattle.waf_model.specs.Alike.{Alike, Decides, no_answers}
 use Rattle.waf_model.specs.Within.{is_path}
-use Rattle.waf_model.specs.Holds.{Holds, IsPathMatch}
-use Rattle.waf_model.specs.Outcome.{Matches, IsPathRule, HasPathRules}
+use Rattle.waf_model.specs.Holds.{Holds}
+use Rattle.waf_model.specs.Outcome.{Matches}
 use Rattle.waf_model.specs.declared.action.Decision.{Decision}
 use Rattle.waf_model.specs.declared.answers.Answers.{Answers}
 use Rattle.waf_model.specs.declared.bundle.Bundle.{Bundle}
@@ -24,10 +24,12 @@ use Rattle.waf_model.specs.declared.statement.Statement.{Statement}
 use Rattle.waf_model.specs.declared.statement.Statement.TheVariants.{ByteMatch}
 use Rattle.parting_build.specs.Candidate.{AlikeAt, plain_get}
 use Rattle.parting_build.specs.Named.{names, search_of, search_of_rule}
+use Rattle.parting_build.specs.Plain.{IsPathMatch, IsPathRule, HasPathRules}
+use Rattle.parting_build.proofs.PlainForm.{whole_path_from}
 
 -- the path decides whether a match of the whole path holds
 statement_is : (statement : Statement) (request : Request) (limit : ℕ) → IsPathMatch statement → (request.path ≡ search_of statement) ↔ Holds statement request limit
-statement_is (ByteMatch wanted field ts position) request limit is = holds_is wanted field ts position request limit is
+statement_is (ByteMatch wanted field ts position) request limit is = holds_is wanted field ts position request limit (whole_path_from wanted field ts position is)
 statement_is statement request limit is = absurd is
 
 -- a rule matches just where the path is its search string

@@ -3,7 +3,6 @@ use Rattle.std.specs.Prelude.{ℕ, ◌≡◌, List, [], codes}
 use Rattle.waf_model.specs.Alike.{Decides, no_answers}
 use Rattle.waf_model.specs.declared.action.Decision.{Decision}
 use Rattle.waf_model.specs.declared.address.Address.TheVariants.{V4}
-use Rattle.waf_model.specs.declared.answers.Answers.{Answers}
 use Rattle.waf_model.specs.declared.bundle.Bundle.{Bundle}
 use Rattle.waf_model.specs.declared.request.Request.{Request}
 

@@ -1,3 +1,4 @@
 pub mod Candidate
 pub mod Named
+pub mod Plain
 pub mod Reviewed

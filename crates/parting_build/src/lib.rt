@@ -3,8 +3,13 @@
 
 mod candidate;
 mod named;
+mod plain;
 mod revisions;
 mod verdict;
 
+pub use plain::{plain_form, plain_form_is_path_rules};
 pub use revisions::review;
 pub use verdict::{Parting, Reason, Review, ReviewStop, Side};
+
+#[cfg(test)]
+mod tests;

@@ -1,12 +1,11 @@
 //! The review.
 
-ghost use Rattle.std.specs.Prelude.{◌≡◌, ◌≤◌, [], ℕ, List, IsTrue, None, length, IfOk, IfErr, IfSome};
+ghost use Rattle.std.specs.Prelude.{◌≡◌, [], ℕ, List, IsTrue, None, IfOk, IfErr, IfSome};
 ghost use Rattle.waf_model.specs.Alike.{Alike, Parts};
-ghost use Rattle.waf_model.specs.Outcome.{HasPathRules};
-ghost use Rattle.waf_model.specs.WebAclReading.{most_rules};
 ghost use Rattle.waf_model.specs.Within.{is_path};
 ghost use Rattle.parting_build.specs.Candidate.{AlikeAt};
 ghost use Rattle.parting_build.specs.Named.{names};
+ghost use Rattle.parting_build.specs.Plain.{plain_form_of};
 ghost use Rattle.parting_build.specs.Reviewed.{IsReview};
 ghost use Rattle.parting_build.specs.declared.verdict.ReviewStop.TheVariants as stops;
 
@@ -18,18 +17,16 @@ use waf_base::Meter;
 use waf_model::{Bundle, Memory, TopRule};
 
 /// Whether the two decide alike on every request within the limits, or else a request that parts them, whose headers
-/// have the fewest bytes. Each has at most 1,000 rules, which match the whole path and allow or block. The answer comes
-/// without a node, so the meter stays; it fails only for want of memory.
+/// have the fewest bytes. `plain_form` names nothing of either: each has at most 1,000 rules, which match the whole path
+/// and allow or block. The answer comes without a node, so the meter stays; it fails only for want of memory.
 pub fn review(
     alloc: Global,
     old: &Bundle,
     new: &Bundle,
     meter: &mut Meter,
 ) -> Result<Review, ReviewStop>
-    requires old_rules { HasPathRules old.now }
-    requires new_rules { HasPathRules new.now }
-    requires old_count { length old.now.acl.rules ≤ most_rules }
-    requires new_count { length new.now.acl.rules ≤ most_rules }
+    requires old_plain { plain_form_of old.now ≡ None }
+    requires new_plain { plain_form_of new.now ≡ None }
     ensures answer { IfOk result (IsReview old.now new.now) }
     ensures stop { IfErr result (λ stop. stop ≡ stops.Memory) }
     ensures meter { meter.new ≡ meter.old }
@@ -48,8 +45,8 @@ fn tried_rules(
     new: &Bundle,
     rules: &[TopRule],
 ) -> Result<Option<Parting>, Memory>
-    requires old_rules { HasPathRules old.now }
-    requires new_rules { HasPathRules new.now }
+    requires old_plain { plain_form_of old.now ≡ None }
+    requires new_plain { plain_form_of new.now ≡ None }
     ensures found { IfOk result (λ found. IfSome found (λ parting. Parts old.now new.now parting.request parting.answers parting.old parting.new × (parting.request.headers ≡ []))) }
     ensures none { IfOk result (λ found. found ≡ None → (path : List ℕ) → IsTrue (names rules.now path) → IsTrue (is_path path) → AlikeAt old.now new.now path) }
 {
@@ -64,10 +61,8 @@ fn tried_rules(
 
 /// A request that parts the two, if there is one.
 fn find_parting(alloc: Global, old: &Bundle, new: &Bundle) -> Result<Option<Parting>, Memory>
-    requires old_rules { HasPathRules old.now }
-    requires new_rules { HasPathRules new.now }
-    requires old_count { length old.now.acl.rules ≤ most_rules }
-    requires new_count { length new.now.acl.rules ≤ most_rules }
+    requires old_plain { plain_form_of old.now ≡ None }
+    requires new_plain { plain_form_of new.now ≡ None }
     ensures found { IfOk result (λ found. IfSome found (λ parting. Parts old.now new.now parting.request parting.answers parting.old parting.new × (parting.request.headers ≡ []))) }
     ensures none { IfOk result (λ found. found ≡ None → Alike old.now new.now) }
 {

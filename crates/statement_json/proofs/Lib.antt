@@ -1,3 +1,10 @@
+pub mod FieldsKept
+pub mod Folded
 pub mod Known
+pub mod LeavesKept
 pub mod Levels
+pub mod Onward
 pub mod Parts
+pub mod StatementsKept
+pub mod TopsKept
+pub mod TransformsKept

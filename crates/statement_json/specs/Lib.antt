@@ -5,6 +5,7 @@ pub mod Groups
 pub mod Kinds
 pub mod Matches
 pub mod References
+pub mod Soundness
 pub mod Transforms
 pub mod Statements
 pub mod Tops

@@ -8,11 +8,12 @@ use Rattle.base64.specs.GeneralPurpose.{decoded_of}
 use Rattle.serde_json.specs.Data.{Data}
 use Rattle.serde_json.specs.Written.{compact_text, has_float}
 use Rattle.json_view.specs.Words.{text_member_at, optional_text_at, whole_member_at, word_at}
-use Rattle.key_text.specs.Keys.{with_search}
+use Rattle.key_text.specs.Keys.{with_patterns, with_search}
 use Rattle.pattern_read.specs.Spelled.{pattern_spelled}
 use Rattle.waf_model.specs.Cost.{match_base, size_base, regex_base, pattern_set_base, sql_injection_base, cross_site_base, with_extras}
 use Rattle.waf_model.specs.Gives.{◌>>=◌}
 use Rattle.waf_model.specs.Json.{member_path}
+use Rattle.waf_model.specs.References.{patterns_of}
 use Rattle.waf_model.specs.RequestText.{base64_text}
 use Rattle.waf_model.specs.declared.field.Field.{Field}
 use Rattle.waf_model.specs.declared.field.Field.TheVariants as fields
@@ -23,6 +24,7 @@ use Rattle.waf_model.specs.declared.matching.Position.TheVariants as positions
 use Rattle.waf_model.specs.declared.pattern.Pattern.{Pattern}
 use Rattle.waf_model.specs.declared.read_fault.ReadFault.{ReadFault}
 use Rattle.waf_model.specs.declared.read_fault.ReadFault.TheVariants as faults
+use Rattle.waf_model.specs.declared.sets.RegexSet.{RegexSet}
 use Rattle.waf_model.specs.declared.statement.Statement.{Statement}
 use Rattle.waf_model.specs.declared.statement.Statement.TheVariants as statements
 use Rattle.waf_model.specs.declared.transform.Transform.{Transform}
@@ -176,22 +178,40 @@ regex_of d found path at = do
 unfoldable pub arn_at : Data → List ℕ → Result (List ℕ) ReadFault
 arn_at d path = text_member_at d (codes "ARN") path
 
--- the statement's own text must not hold a number that isn't whole, since it may become a key
-abbrev pub pattern_set_to : Target → List ℕ → Data → List ℕ → Result Statement ReadFault
-pattern_set_to target arn d path =
+-- The object that a reference to a pattern set has its key of: where the bundle has the set, its patterns stand beside
+-- the reference.
+abbrev pub keyed_reference : Option RegexSet → Data → Data
+keyed_reference None d = d
+keyed_reference (Some set) d = with_patterns set.texts d
+
+-- a text of the set is outside the subset
+abbrev pub is_outside : Option RegexSet → Bool
+is_outside None = false
+is_outside (Some set) = set.outside
+
+-- a reference to that pattern set that is an answer; the statement must not hold a number that isn't whole
+abbrev pub opaque_reference : Option RegexSet → List ℕ → Data → ℕ → List ℕ → Result Statement ReadFault
+opaque_reference set arn d cost path =
+    if has_float d then Err (faults.Number path) else Ok (statements.Opaque (compact_text (keyed_reference set d)) (Some cost) (Some arn))
+
+-- a reference to that pattern set that is evaluated
+abbrev pub evaluated_reference : Target → List ℕ → Data → List ℕ → Result Statement ReadFault
+evaluated_reference target arn d path =
     if has_float d then Err (faults.Number path) else Ok (statements.PatternSet arn target.field target.transforms (compact_text d))
 
-abbrev pub pattern_set_on : Option Target → List ℕ → Data → ℕ → List ℕ → Result Statement ReadFault
-pattern_set_on None arn d cost path = opaque d (Some cost) (Some arn) path
-pattern_set_on (Some target) arn d cost path = pattern_set_to target arn d path
+-- a set with a text outside the subset makes each statement that refers to it an answer
+abbrev pub pattern_set_on : Option Target → Option RegexSet → List ℕ → Data → ℕ → List ℕ → Result Statement ReadFault
+pattern_set_on None set arn d cost path = opaque_reference set arn d cost path
+pattern_set_on (Some target) set arn d cost path =
+    if is_outside set then opaque_reference set arn d cost path else evaluated_reference target arn d path
 
--- `RegexPatternSetReferenceStatement`
-unfoldable pub pattern_set_of : Data → Data → List ℕ → List ℕ → Result Statement ReadFault
-pattern_set_of d found path at = do
+-- `RegexPatternSetReferenceStatement`, among the pattern sets of the bundle
+unfoldable pub pattern_set_of : List RegexSet → Data → Data → List ℕ → List ℕ → Result Statement ReadFault
+pattern_set_of sets d found path at = do
   arn ← arn_at found at
   field ← field_at found at
   listed ← transforms_at found at
-  pattern_set_on (target_of field listed) arn d (cost_of pattern_set_base field listed) path
+  pattern_set_on (target_of field listed) (patterns_of sets arn) arn d (cost_of pattern_set_base field listed) path
 
 -- ---- detectors, which are always answers
 

@@ -11,6 +11,7 @@ use Rattle.waf_model.specs.declared.read_fault.ReadFault.{ReadFault}
 use Rattle.waf_model.specs.declared.read_fault.ReadFault.TheVariants as faults
 use Rattle.waf_model.specs.declared.rule.GroupUse.{GroupUse}
 use Rattle.waf_model.specs.declared.rule.ManagedUse.{ManagedUse}
+use Rattle.waf_model.specs.declared.sets.RegexSet.{RegexSet}
 use Rattle.waf_model.specs.declared.statement.Statement.{Statement}
 use Rattle.waf_model.specs.declared.statement.Statement.TheVariants as statements
 use Rattle.statement_json.specs.Groups.{group_use_of}
@@ -104,20 +105,20 @@ group_use_at d path = member_at d (codes "RuleGroupReferenceStatement") path >>=
 -- ---- the top of a rule
 
 -- the statement of that rule of that group, or of a web ACL where the group's name is empty
-abbrev pub rule_kind : Reading → Encoding → List ℕ → List ℕ → Option StatementKind → Data → List ℕ → ℕ → Result (Statement × ℕ) ReadFault
-rule_kind inner encoding group rule (Some kinds.RateBased) d path seen = rate_at inner group rule d path seen
-rule_kind inner encoding group rule kind d path seen = of_some_kind inner encoding kind d path seen
+abbrev pub rule_kind : Reading → List RegexSet → Encoding → List ℕ → List ℕ → Option StatementKind → Data → List ℕ → ℕ → Result (Statement × ℕ) ReadFault
+rule_kind inner sets encoding group rule (Some kinds.RateBased) d path seen = rate_at inner group rule d path seen
+rule_kind inner sets encoding group rule kind d path seen = of_some_kind inner sets encoding kind d path seen
 
 -- the statement at the top of a rule of a group
-abbrev pub rule_statement_of : Encoding → List ℕ → List ℕ → Data → List ℕ → ℕ → Result (Statement × ℕ) ReadFault
-rule_statement_of encoding group rule d path seen = opened d path seen >>= λ now. rule_kind (statement_within part_levels encoding) encoding group rule (kind_of d) d path now
+abbrev pub rule_statement_of : List RegexSet → Encoding → List ℕ → List ℕ → Data → List ℕ → ℕ → Result (Statement × ℕ) ReadFault
+rule_statement_of sets encoding group rule d path seen = opened d path seen >>= λ now. rule_kind (statement_within part_levels sets encoding) sets encoding group rule (kind_of d) d path now
 
 -- the statement of that rule of a web ACL
-abbrev pub top_kind : Reading → Encoding → List ℕ → Option StatementKind → Data → List ℕ → ℕ → Result (TopStatement × ℕ) ReadFault
-top_kind inner encoding rule (Some kinds.RuleGroupReference) d path seen = group_use_at d path >>= λ group. Ok (tops.Group group, seen)
-top_kind inner encoding rule (Some kinds.ManagedRuleGroup) d path seen = managed_at inner d path seen >>= λ managed. Ok (tops.Managed managed.0, managed.1)
-top_kind inner encoding rule kind d path seen = rule_kind inner encoding [] rule kind d path seen >>= λ statement. Ok (tops.Plain statement.0, statement.1)
+abbrev pub top_kind : Reading → List RegexSet → Encoding → List ℕ → Option StatementKind → Data → List ℕ → ℕ → Result (TopStatement × ℕ) ReadFault
+top_kind inner sets encoding rule (Some kinds.RuleGroupReference) d path seen = group_use_at d path >>= λ group. Ok (tops.Group group, seen)
+top_kind inner sets encoding rule (Some kinds.ManagedRuleGroup) d path seen = managed_at inner d path seen >>= λ managed. Ok (tops.Managed managed.0, managed.1)
+top_kind inner sets encoding rule kind d path seen = rule_kind inner sets encoding [] rule kind d path seen >>= λ statement. Ok (tops.Plain statement.0, statement.1)
 
 -- the statement at the top of a rule of a web ACL
-abbrev pub top_statement_of : Encoding → List ℕ → Data → List ℕ → ℕ → Result (TopStatement × ℕ) ReadFault
-top_statement_of encoding rule d path seen = opened d path seen >>= λ now. top_kind (statement_within part_levels encoding) encoding rule (kind_of d) d path now
+abbrev pub top_statement_of : List RegexSet → Encoding → List ℕ → Data → List ℕ → ℕ → Result (TopStatement × ℕ) ReadFault
+top_statement_of sets encoding rule d path seen = opened d path seen >>= λ now. top_kind (statement_within part_levels sets encoding) sets encoding rule (kind_of d) d path now

@@ -13,6 +13,7 @@ mod listed;
 mod managed_use;
 mod matching;
 mod opaque;
+mod pattern_sets;
 mod rate;
 mod references;
 mod scope_down;
@@ -26,6 +27,7 @@ mod transforms;
 
 pub use actions::action;
 pub use encoding::Encoding;
+pub use matching::{arn, regex};
 pub use top::{TopStatement, rule_statement, top_statement};
 
 #[cfg(test)]

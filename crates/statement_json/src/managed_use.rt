@@ -13,7 +13,7 @@ use json_view::{copy_of, member, member_path, optional_text, text_member};
 use key_text::{unscoped_holds_float, unscoped_key};
 use serde_json::Value;
 use std::alloc::Global;
-use waf_model::{ManagedUse, Memory, ReadFault, Statement, Text};
+use waf_model::{ManagedUse, Memory, ReadFault, RegexSet, Statement, Text};
 
 /// Whose managed rule group it is.
 #[derive(Drop)]
@@ -26,6 +26,7 @@ pub(crate) struct ManagedName {
 // A managed rule group, which counts nothing yet.
 pub(crate) fn managed_use(
     alloc: Global,
+    sets: &[RegexSet],
     encoding: Encoding,
     v: &Value,
     path: &Text,
@@ -33,16 +34,18 @@ pub(crate) fn managed_use(
 ) -> Result<ManagedUse, ReadFault>
     requires few { seen.old ≤ most_statements }
     ensures few { seen.new ≤ most_statements }
-    ensures reading { Gives read_faults.Memory (λ managed. (managed, seen.new)) result (managed_at (statement_within part_levels encoding) (view v.now) path.now seen.old) }
+    ensures grows { seen.old ≤ seen.new }
+    ensures reading { Gives read_faults.Memory (λ managed. (managed, seen.new)) result (managed_at (statement_within part_levels sets.now encoding) (view v.now) path.now seen.old) }
 {
     let found = member(alloc, v, "ManagedRuleGroupStatement", path)?;
     let at = member_path(alloc, path, "ManagedRuleGroupStatement")?;
-    managed_of(alloc, encoding, v, found, path, &at, seen)
+    managed_of(alloc, sets, encoding, v, found, path, &at, seen)
 }
 
 // A managed rule group, by its value.
 fn managed_of(
     alloc: Global,
+    sets: &[RegexSet],
     encoding: Encoding,
     statement: &Value,
     found: &Value,
@@ -52,10 +55,11 @@ fn managed_of(
 ) -> Result<ManagedUse, ReadFault>
     requires few { seen.old ≤ most_statements }
     ensures few { seen.new ≤ most_statements }
-    ensures reading { Gives read_faults.Memory (λ managed. (managed, seen.new)) result (managed_in (statement_within part_levels encoding) (view statement.now) seen.old (view found.now) path.now at.now) }
+    ensures grows { seen.old ≤ seen.new }
+    ensures reading { Gives read_faults.Memory (λ managed. (managed, seen.new)) result (managed_in (statement_within part_levels sets.now encoding) (view statement.now) seen.old (view found.now) path.now at.now) }
 {
     let named = managed_name(alloc, found, at)?;
-    let scope_down = scope_down(alloc, encoding, found, at, seen)?;
+    let scope_down = scope_down(alloc, sets, encoding, found, at, seen)?;
     let key = key(alloc, statement, found, path)?;
     Ok(ManagedUse {
         key,

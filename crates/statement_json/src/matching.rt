@@ -2,7 +2,7 @@
 
 ghost use Rattle.json_view.specs.Words.{meaning};
 ghost use Rattle.serde_json.specs.View.{view};
-ghost use Rattle.statement_json.specs.Matches.{arn_at, byte_match_of, compare_at, compare_words, pattern_set_of, pattern_set_to as pattern_set_with, regex_at, regex_of, regex_on as regex_with, size_at, size_of};
+ghost use Rattle.statement_json.specs.Matches.{arn_at, byte_match_of, compare_at, compare_words, regex_at, regex_of, regex_on as regex_with, size_at, size_of};
 ghost use Rattle.std.specs.Prelude.{◌≡◌, ◌≤◌};
 ghost use Rattle.waf_model.specs.Cost.{match_base as base_of};
 ghost use Rattle.waf_model.specs.Gives.{Gives};
@@ -14,8 +14,7 @@ use crate::opaque::{opaque, opaque_match};
 use crate::search::{position, search};
 use crate::target::{Target, cost_of, target_of};
 use crate::transforms::transforms;
-use json_view::{copy_of, member_path, text_member, whole_member};
-use key_text::{holds_float, statement_key};
+use json_view::{member_path, text_member, whole_member};
 use pattern_read::read_pattern;
 use serde_json::Value;
 use std::alloc::Global;
@@ -25,8 +24,6 @@ use waf_model::{Compare, Pattern, Position, ReadFault, Statement, Text};
 const SIZE_BASE: u64 = 1;
 
 const REGEX_BASE: u64 = 3;
-
-const PATTERN_SET_BASE: u64 = 25;
 
 // The greatest length that a text is compared with, in bytes.
 const GREATEST_SIZE: u64 = 9_223_372_036_854_775_807;
@@ -188,9 +185,10 @@ fn regex_on(
     })
 }
 
-// The text of a pattern.
+/// The text of a pattern in the member `RegexString`, of at most 4,096 bytes (API type `Regex`). It fails with Shape at the
+/// member's path where there is no text, with Limit where it is longer, and for want of memory.
 #[tactic(auto, unfolding(crate::specs::Matches::regex_at))]
-fn regex<'a>(alloc: Global, v: &'a Value, path: &Text) -> Result<&'a str, ReadFault>
+pub fn regex<'a>(alloc: Global, v: &'a Value, path: &Text) -> Result<&'a str, ReadFault>
     ensures { Gives read_faults.Memory (λ text. text.now) result (regex_at (view v.now) path.now) }
 {
     let text = text_member(alloc, v, "RegexString", path)?;
@@ -200,53 +198,9 @@ fn regex<'a>(alloc: Global, v: &'a Value, path: &Text) -> Result<&'a str, ReadFa
     Ok(text)
 }
 
-// A reference to a pattern set.
-#[tactic(auto, unfolding(crate::specs::Matches::pattern_set_of))]
-pub(crate) fn pattern_set(
-    alloc: Global,
-    statement: &Value,
-    found: &Value,
-    path: &Text,
-    at: &Text,
-) -> Result<Statement, ReadFault>
-    ensures { Gives read_faults.Memory (λ statement. statement) result (pattern_set_of (view statement.now) (view found.now) path.now at.now) }
-{
-    let arn = arn(alloc, found, at)?;
-    let field = field(alloc, found, at)?;
-    let listed = transforms(alloc, found, at)?;
-    let cost = cost_of(PATTERN_SET_BASE, &field, &listed);
-    let target = target_of(alloc, field, &listed)?;
-    match target {
-        Some(target) => pattern_set_to(alloc, target, arn, statement, path),
-        None => opaque(alloc, statement, Some(cost), Some(arn), path),
-    }
-}
-
-// A reference to a pattern set, all of which is evaluated so far.
-fn pattern_set_to(
-    alloc: Global,
-    target: Target,
-    arn: Text,
-    statement: &Value,
-    path: &Text,
-) -> Result<Statement, ReadFault>
-    ensures { Gives read_faults.Memory (λ statement. statement) result (pattern_set_with target arn (view statement.now) path.now) }
-{
-    if holds_float(statement) {
-        return Err(ReadFault::Number(copy_of(alloc, path)?));
-    }
-    let source = statement_key(alloc, statement)?;
-    Ok(Statement::PatternSet {
-        arn,
-        field: target.field,
-        transforms: target.transforms,
-        source,
-    })
-}
-
-// The ARN of what a statement refers to.
+/// The text of the member `ARN`. It fails with Shape at the member's path where there is none, and for want of memory.
 #[tactic(auto, unfolding(crate::specs::Matches::arn_at))]
-pub(crate) fn arn(alloc: Global, v: &Value, path: &Text) -> Result<Text, ReadFault>
+pub fn arn(alloc: Global, v: &Value, path: &Text) -> Result<Text, ReadFault>
     ensures { Gives read_faults.Memory (λ arn. arn) result (arn_at (view v.now) path.now) }
 {
     let arn = text_member(alloc, v, "ARN", path)?;

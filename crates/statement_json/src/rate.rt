@@ -13,7 +13,7 @@ use json_view::{copy_of, member, member_path, optional_list};
 use key_text::{rate_key, unscoped_holds_float};
 use serde_json::Value;
 use std::alloc::Global;
-use waf_model::{Boxed, Memory, ReadFault, Statement, Text};
+use waf_model::{Boxed, Memory, ReadFault, RegexSet, Statement, Text};
 
 /// What a rate-based statement has besides its key.
 #[derive(Drop)]
@@ -25,6 +25,7 @@ pub(crate) struct RateParts {
 // The rate-based statement of that rule of that group.
 pub(crate) fn rate(
     alloc: Global,
+    sets: &[RegexSet],
     encoding: Encoding,
     group: &Text,
     rule: &Text,
@@ -34,16 +35,20 @@ pub(crate) fn rate(
 ) -> Result<Statement, ReadFault>
     requires few { seen.old ≤ most_statements }
     ensures few { seen.new ≤ most_statements }
-    ensures reading { Gives read_faults.Memory (λ statement. (statement, seen.new)) result (rate_at (statement_within part_levels encoding) group.now rule.now (view v.now) path.now seen.old) }
+    ensures grows { seen.old ≤ seen.new }
+    ensures reading { Gives read_faults.Memory (λ statement. (statement, seen.new)) result (rate_at (statement_within part_levels sets.now encoding) group.now rule.now (view v.now) path.now seen.old) }
 {
     let found = member(alloc, v, "RateBasedStatement", path)?;
     let at = member_path(alloc, path, "RateBasedStatement")?;
-    rate_of(alloc, encoding, group, rule, v, found, path, &at, seen)
+    rate_of(
+        alloc, sets, encoding, group, rule, v, found, path, &at, seen,
+    )
 }
 
 // The rate-based statement, by its value.
 fn rate_of(
     alloc: Global,
+    sets: &[RegexSet],
     encoding: Encoding,
     group: &Text,
     rule: &Text,
@@ -55,9 +60,10 @@ fn rate_of(
 ) -> Result<Statement, ReadFault>
     requires few { seen.old ≤ most_statements }
     ensures few { seen.new ≤ most_statements }
-    ensures reading { Gives read_faults.Memory (λ statement. (statement, seen.new)) result (rate_in (statement_within part_levels encoding) group.now rule.now (view statement.now) seen.old (view found.now) path.now at.now) }
+    ensures grows { seen.old ≤ seen.new }
+    ensures reading { Gives read_faults.Memory (λ statement. (statement, seen.new)) result (rate_in (statement_within part_levels sets.now encoding) group.now rule.now (view statement.now) seen.old (view found.now) path.now at.now) }
 {
-    let parts = rate_parts(alloc, encoding, found, at, seen)?;
+    let parts = rate_parts(alloc, sets, encoding, found, at, seen)?;
     let key = key(alloc, group, rule, statement, found, path)?;
     Ok(Statement::Rate {
         key,
@@ -69,6 +75,7 @@ fn rate_of(
 // What the statement has besides its key.
 fn rate_parts(
     alloc: Global,
+    sets: &[RegexSet],
     encoding: Encoding,
     v: &Value,
     path: &Text,
@@ -76,10 +83,11 @@ fn rate_parts(
 ) -> Result<RateParts, ReadFault>
     requires few { seen.old ≤ most_statements }
     ensures few { seen.new ≤ most_statements }
-    ensures reading { Gives read_faults.Memory (λ parts. (parts, seen.new)) result (rate_parts_at (statement_within part_levels encoding) (view v.now) path.now seen.old) }
+    ensures grows { seen.old ≤ seen.new }
+    ensures reading { Gives read_faults.Memory (λ parts. (parts, seen.new)) result (rate_parts_at (statement_within part_levels sets.now encoding) (view v.now) path.now seen.old) }
 {
     let custom_keys = custom_keys(alloc, v, path)?;
-    let scope_down = scope_down(alloc, encoding, v, path, seen)?;
+    let scope_down = scope_down(alloc, sets, encoding, v, path, seen)?;
     let scope_down = boxed(alloc, scope_down)?;
     Ok(RateParts {
         custom_keys,

@@ -12,7 +12,7 @@ use crate::statement::statement;
 use json_view::{member_path, optional};
 use serde_json::Value;
 use std::alloc::Global;
-use waf_model::{ReadFault, Statement, Text};
+use waf_model::{ReadFault, RegexSet, Statement, Text};
 
 /// The parts of a statement at the top of a rule have so many levels of statements at most.
 pub(crate) const PART_LEVELS: u32 = 127;
@@ -20,6 +20,7 @@ pub(crate) const PART_LEVELS: u32 = 127;
 // The scope-down statement, where there is one.
 pub(crate) fn scope_down(
     alloc: Global,
+    sets: &[RegexSet],
     encoding: Encoding,
     v: &Value,
     path: &Text,
@@ -27,15 +28,17 @@ pub(crate) fn scope_down(
 ) -> Result<Option<Statement>, ReadFault>
     requires few { seen.old ≤ most_statements }
     ensures few { seen.new ≤ most_statements }
-    ensures reading { Gives read_faults.Memory (λ part. (part, seen.new)) result (scope_down_at (statement_within part_levels encoding) (view v.now) path.now seen.old) }
+    ensures grows { seen.old ≤ seen.new }
+    ensures reading { Gives read_faults.Memory (λ part. (part, seen.new)) result (scope_down_at (statement_within part_levels sets.now encoding) (view v.now) path.now seen.old) }
 {
     let found = optional(alloc, v, "ScopeDownStatement", path)?;
     let at = member_path(alloc, path, "ScopeDownStatement")?;
-    optional_part(alloc, encoding, found, &at, seen)
+    optional_part(alloc, sets, encoding, found, &at, seen)
 }
 
 fn optional_part(
     alloc: Global,
+    sets: &[RegexSet],
     encoding: Encoding,
     found: Option<&Value>,
     path: &Text,
@@ -43,12 +46,13 @@ fn optional_part(
 ) -> Result<Option<Statement>, ReadFault>
     requires few { seen.old ≤ most_statements }
     ensures few { seen.new ≤ most_statements }
-    ensures reading { Gives read_faults.Memory (λ part. (part, seen.new)) result (optional_part_in (statement_within part_levels encoding) (option_map (λ v. view v.now) found.entry) path.now seen.old) }
+    ensures grows { seen.old ≤ seen.new }
+    ensures reading { Gives read_faults.Memory (λ part. (part, seen.new)) result (optional_part_in (statement_within part_levels sets.now encoding) (option_map (λ v. view v.now) found.entry) path.now seen.old) }
 {
     match found {
         None => Ok(None),
         Some(found) => {
-            let part = statement(alloc, PART_LEVELS, encoding, found, path, seen)?;
+            let part = statement(alloc, PART_LEVELS, sets, encoding, found, path, seen)?;
             Ok(Some(part))
         }
     }

@@ -1,4 +1,5 @@
 mod lines;
+mod sets;
 mod table;
 
 use crate::Encoding;

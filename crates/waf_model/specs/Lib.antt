@@ -5,9 +5,11 @@ pub mod AnswersText
 pub mod Cost
 pub mod Gives
 pub mod Holds
+pub mod Inspected
 pub mod Json
 pub mod JsonText
 pub mod Letters
+pub mod NamedPieces
 pub mod Outcome
 pub mod Passes
 pub mod Pattern
@@ -18,8 +20,10 @@ pub mod PatternPieces
 pub mod Pieces
 pub mod Prefix
 pub mod Printed
+pub mod References
 pub mod RequestText
 pub mod Shown
+pub mod SoundStatement
 pub mod StatementCount
 pub mod TransformBytes
 pub mod TransformComments
@@ -31,6 +35,6 @@ pub mod TransformScan
 pub mod TransformSpaces
 pub mod Transformed
 pub mod WebAcl
-pub mod WebAclReading
+pub mod WholeBundle
 pub mod Within
 pub use Rattle.sqlite_items.specs.formers

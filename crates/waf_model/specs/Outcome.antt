@@ -1,10 +1,10 @@
 -- What a web ACL decides of a request (AWS WAF Developer Guide, "How AWS WAF processes rules and rule groups in a web
 -- ACL"): the first rule, by ascending priority, that matches and ends the evaluation, or the default action. This is the
--- meaning where each rule is a plain one that allows or blocks by a match of the whole path (`HasPathRules`), and the
--- rules stand by ascending priority (`IsSound` of a web ACL). For every other form there are stand-ins, on which no
--- contract rests: a statement doesn't hold, a field shows nothing, a transformation leaves the text.
-use Rattle.std.specs.Prelude.{◌≡◌, ℕ, ◌<◌, ◌⊎◌, List, [], All, Option, Some, None, slice_get}
-use Rattle.waf_model.specs.Holds.{Holds, IsPathMatch}
+-- meaning where each rule is a plain one without labels that allows, blocks or counts by matches of the whole path, joined
+-- by And, Or and Not, and the rules stand by ascending priority (`IsSound` of a web ACL). For every other form there are
+-- stand-ins, on which no contract rests: a statement doesn't hold, a field shows nothing, a rule with a group doesn't match.
+use Rattle.std.specs.Prelude.{◌≡◌, ℕ, ◌<◌, ◌⊎◌, List, [], Option, Some, None, slice_get}
+use Rattle.waf_model.specs.Holds.{Holds}
 use Rattle.waf_model.specs.declared.action.Action.{Action}
 use Rattle.waf_model.specs.declared.action.Action.TheVariants as actions
 use Rattle.waf_model.specs.declared.action.Decision.{Decision}
@@ -62,18 +62,3 @@ pub record DefaultDecides (acl : Acl) (request : Request) (answers : Answers) (o
 -- evaluated yet asks one
 abbrev pub IsOutcome : Bundle → Request → Answers → Outcome → Type 0
 IsOutcome bundle request answers outcome = RuleDecides bundle.acl request answers outcome ⊎ DefaultDecides bundle.acl request answers outcome
-
--- the action is Allow or Block
-abbrev pub IsAllowOrBlock : Action → Type 0
-IsAllowOrBlock actions.Allow = Unit {0}
-IsAllowOrBlock (actions.Block code) = Unit {0}
-IsAllowOrBlock action = ⊥
-
--- a plain rule with Allow or Block and without labels, whose statement is a match of the whole path
-abbrev pub IsPathRule : Top → Type 0
-IsPathRule (Plain rule) = IsPathMatch rule.statement × IsAllowOrBlock rule.action × (rule.labels ≡ [])
-IsPathRule body = ⊥
-
--- each rule is such a rule: the form that is evaluated
-abbrev pub HasPathRules : Bundle → Type 0
-HasPathRules bundle = All (λ top. IsPathRule top.body) bundle.acl.rules

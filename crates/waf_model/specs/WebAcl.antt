@@ -1,8 +1,8 @@
--- What every web ACL that is read keeps to, and what it costs.
-use Rattle.std.specs.Prelude.{◌≡◌, ℕ, ◌*◌, ◌<◌, ◌++◌, List, [], length, map, codes, All, AllPairs, IsPermutation}
+-- What every web ACL and every rule group that is read keeps to.
+use Rattle.std.specs.Prelude.{◌≡◌, ℕ, ◌<◌, ◌++◌, List, length, map, codes, All, AllPairs, IsPermutation, IsTrue}
 use Rattle.std.specs.List.{range_with_len}
-use Rattle.waf_model.specs.declared.bundle.Bundle.{Bundle}
-use Rattle.waf_model.specs.declared.outcome.Capacity.{Capacity}
+use Rattle.waf_model.specs.SoundStatement.{is_sound_statement, is_sound_top}
+use Rattle.waf_model.specs.declared.group.Group.{Group}
 use Rattle.waf_model.specs.declared.rule.Top.{Top}
 use Rattle.waf_model.specs.declared.rule.Top.TheVariants.{Plain}
 use Rattle.waf_model.specs.declared.rule.TopRule.{TopRule}
@@ -13,24 +13,25 @@ use Rattle.waf_model.specs.declared.web_acl.Acl.{Acl}
 abbrev pub IsNamespace : List ℕ → Type 0
 IsNamespace namespace = ((rest : List ℕ) × (namespace ≡ codes "awswaf:" ++ rest)) × ((front : List ℕ) × (namespace ≡ front ++ codes ":"))
 
+-- the priorities of the rules ascend, and their places are 0 to their number less one, each once
+pub record IsInOrder (priorities places : List ℕ) : Type 0 where
+  pub ascend : AllPairs (λ a b. a < b) priorities
+  pub each_place : IsPermutation (range_with_len 0 (length places)) places
+
 -- a plain rule has the name, priority and place of the rule that it is
 abbrev pub IsSameRule : TopRule → Top → Type 0
 IsSameRule top (Plain rule) = (rule.name ≡ top.name) × (rule.priority ≡ top.priority) × (rule.place ≡ top.place)
 IsSameRule top body = Unit {0}
 
--- What holds of every web ACL that is read. The namespace is one; the priorities of the rules ascend; their places are 0 to their number less one, each once; and
--- each plain rule is the same as the rule that it is.
+-- what holds of every web ACL that is read
 pub record IsSound (acl : Acl) : Type 0 where
   pub namespace : IsNamespace acl.namespace
-  pub priorities : AllPairs (λ a b. a < b) (map (λ top. top.priority) acl.rules)
-  pub places : IsPermutation (range_with_len 0 (length acl.rules)) (map (λ top. top.place) acl.rules)
+  pub order : IsInOrder (map (λ top. top.priority) acl.rules) (map (λ top. top.place) acl.rules)
   pub plain : All (λ top. IsSameRule top top.body) acl.rules
+  pub statements : All (λ top. IsTrue (is_sound_top top.body)) acl.rules
 
--- what the rules cost, in web ACL capacity units: 2 for each match of the whole path (this project's own); until the
--- costs of other statements are defined, no web ACL that is read has one
-abbrev pub cost : Bundle → Capacity
-cost bundle = record { known = 2 * length bundle.acl.rules; unknown = 0 }
-
--- the bundle of a web ACL that refers to nothing
-abbrev pub bundle_of : Acl → Bundle
-bundle_of acl = record { acl = acl; groups = []; ip_sets = []; regex_sets = []; managed = [] }
+-- what holds of every rule group that is read
+pub record IsSoundGroup (group : Group) : Type 0 where
+  pub namespace : IsNamespace group.namespace
+  pub order : IsInOrder (map (λ rule. rule.priority) group.rules) (map (λ rule. rule.place) group.rules)
+  pub statements : All (λ rule. IsTrue (is_sound_statement rule.statement)) group.rules

@@ -1,5 +1,4 @@
 pub mod TakenMore
-pub mod Commas
-pub mod Pushed
 pub mod Reviewed
 pub mod DueAnswers
+pub mod Refused

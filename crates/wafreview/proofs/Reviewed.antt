@@ -4,6 +4,7 @@ use Rattle.waf_model.specs.declared.bundle.Bundle.{Bundle}
 use Rattle.parting_build.specs.Reviewed.{IsReview}
 use Rattle.parting_build.specs.declared.verdict.Review.{Review}
 use Rattle.parting_build.specs.declared.verdict.Review.TheVariants.{Equal, Different, Undecided}
+use Rattle.request_parts.proofs.ReadBack.{reads_back}
 use Rattle.wafreview.specs.Due.{IsEqual, IsDifferent}
 use Rattle.wafreview.specs.ReviewText.{review_text, review_code}
 
@@ -16,6 +17,7 @@ reviewed_due old new (Different parting) code text is status printed = inr (reco
   answers = parting.answers;
   parts = is.0;
   least = is.1;
+  reads_back = reads_back parting.request _ is.0.within;
   status = status;
   printed = printed;
 })

@@ -7,6 +7,7 @@ use Rattle.wafreview.specs.declared.role.Role.TheVariants as roles
 -- a command with the names of its files
 pub data Command : Type 0 where
   evaluate : (bundle request : List ℕ) → Command
+  capacity : (bundle : List ℕ) → Command
   review : (old new : List ℕ) → Command
 
 -- a file's name is a word that isn't empty and doesn't begin with `-`
@@ -14,8 +15,9 @@ abbrev pub is_file_word : List ℕ → Bool
 is_file_word [] = false
 is_file_word (b ∷ bytes) = not (b == 45)
 
--- `evaluate BUNDLE REQUEST` and `review OLD NEW`
+-- `evaluate BUNDLE REQUEST`, `capacity BUNDLE` and `review OLD NEW`
 abbrev pub command_of : List (List ℕ) → Option Command
+command_of (word ∷ file ∷ []) = if is_file_word file && bytes_eq word (codes "capacity") then Some (capacity file) else None
 command_of (word ∷ first ∷ second ∷ []) = if is_file_word first && is_file_word second
     then (if bytes_eq word (codes "evaluate") then Some (evaluate first second)
     else (if bytes_eq word (codes "review") then Some (review first second) else None)) else None
@@ -24,4 +26,5 @@ command_of words = None
 -- the files of a command, in the order in which they are read
 abbrev pub files_of : Command → List (Role × List ℕ)
 files_of (evaluate bundle request) = (roles.Bundle, bundle) ∷ (roles.Request, request) ∷ []
+files_of (capacity bundle) = (roles.Bundle, bundle) ∷ []
 files_of (review old new) = (roles.Old, old) ∷ (roles.New, new) ∷ []

@@ -1,21 +1,24 @@
 -- The text and the status that are due for a command on the bytes of its files (this project's own): the first text with a
--- fault is refused, and otherwise the command's work is done.
-use Rattle.std.specs.Prelude.{ℕ, ◌≡◌, ◌⊎◌, List, [], ◌∷◌, Result, Ok, Err}
+-- fault is refused, then the first thing that can't be evaluated or reviewed yet, and otherwise the command's work is done.
+use Rattle.std.specs.Prelude.{ℕ, ◌≡◌, ◌⊎◌, List, [], ◌∷◌, Option, Some, None, Result, Ok, Err}
+use Rattle.acl_eval.specs.Unbuilt.{unbuilt_of}
+use Rattle.parting_build.specs.Plain.{plain_form_of}
 use Rattle.waf_model.specs.Alike.{Alike, Parts, no_answers}
+use Rattle.waf_model.specs.Cost.{cost_of}
 use Rattle.waf_model.specs.Outcome.{IsOutcome}
-use Rattle.waf_model.specs.Printed.{outcome_text, equal_text, different_text}
-use Rattle.waf_model.specs.WebAcl.{bundle_of, cost}
-use Rattle.waf_model.specs.WebAclReading.{web_acl_reading}
+use Rattle.waf_model.specs.Printed.{capacity_line, outcome_text, equal_text, different_text}
+use Rattle.waf_model.specs.RequestText.{request_text}
 use Rattle.waf_model.specs.declared.action.Decision.{Decision}
 use Rattle.waf_model.specs.declared.answers.Answers.{Answers}
 use Rattle.waf_model.specs.declared.bundle.Bundle.{Bundle}
 use Rattle.waf_model.specs.declared.outcome.Outcome.{Outcome}
 use Rattle.waf_model.specs.declared.read_fault.ReadFault.{ReadFault}
+use Rattle.waf_model.specs.declared.read_fault.ReadFault.TheVariants.{NotBuilt}
 use Rattle.waf_model.specs.declared.request.Request.{Request}
-use Rattle.waf_model.specs.declared.web_acl.Acl.{Acl}
 use Rattle.parting_build.specs.Reviewed.{HasLeastHeaderBytes}
-use Rattle.wafreview.specs.CommandLine.{Command, evaluate, review}
-use Rattle.wafreview.specs.RequestReading.{request_reading}
+use Rattle.request_parts.specs.RequestReading.{request_reading}
+use Rattle.set_json.specs.Bundles.{bundle_reading}
+use Rattle.wafreview.specs.CommandLine.{Command, evaluate, capacity, review}
 use Rattle.wafreview.specs.Texts.{refused_text}
 use Rattle.wafreview.specs.declared.role.Role.{Role}
 use Rattle.wafreview.specs.declared.role.Role.TheVariants as roles
@@ -29,7 +32,7 @@ pub record IsEvaluated (bundle : Bundle) (request : Request) (code : ℕ) (text 
   pub outcome : Outcome
   pub is_outcome : IsOutcome bundle request no_answers outcome
   pub status : code ≡ 0
-  pub printed : text ≡ outcome_text outcome (cost bundle)
+  pub printed : text ≡ outcome_text outcome (cost_of bundle)
 
 -- EQUAL is printed, and the two decide alike
 pub record IsEqual (old new : Bundle) (code : ℕ) (text : List ℕ) : Type 0 where
@@ -37,7 +40,8 @@ pub record IsEqual (old new : Bundle) (code : ℕ) (text : List ℕ) : Type 0 wh
   pub status : code ≡ 0
   pub printed : text ≡ equal_text
 
--- DIFFERENT is printed, with decisions, a request and answers that part the two, and no such request has fewer header bytes
+-- DIFFERENT is printed, with decisions, a request and answers that part the two, and no such request has fewer header
+-- bytes; the printed request reads back as that request
 pub record IsDifferent (old new : Bundle) (code : ℕ) (text : List ℕ) : Type 0 where
   pub before : Decision
   pub after : Decision
@@ -45,23 +49,41 @@ pub record IsDifferent (old new : Bundle) (code : ℕ) (text : List ℕ) : Type 
   pub answers : Answers
   pub parts : Parts old new request answers before after
   pub least : HasLeastHeaderBytes old new request
+  pub reads_back : request_reading (request_text request) ≡ Ok request
   pub status : code ≡ 1
   pub printed : text ≡ different_text before after request answers
 
+-- of `evaluate` on a readable bundle and request: the first thing that can't be evaluated yet is refused
+abbrev pub BuiltDue : Option (List ℕ) → Bundle → Request → ℕ → List ℕ → Type 0
+BuiltDue (Some path) bundle request code text = IsRefused roles.Bundle (NotBuilt path) code text
+BuiltDue None bundle request code text = IsEvaluated bundle request code text
+
 -- of `evaluate`, by what its two texts are read as; the bundle comes first
-abbrev pub EvaluateDue : Result Acl ReadFault → Result Request ReadFault → ℕ → List ℕ → Type 0
+abbrev pub EvaluateDue : Result Bundle ReadFault → Result Request ReadFault → ℕ → List ℕ → Type 0
 EvaluateDue (Err fault) request code text = IsRefused roles.Bundle fault code text
-EvaluateDue (Ok acl) (Err fault) code text = IsRefused roles.Request fault code text
-EvaluateDue (Ok acl) (Ok request) code text = IsEvaluated (bundle_of acl) request code text
+EvaluateDue (Ok bundle) (Err fault) code text = IsRefused roles.Request fault code text
+EvaluateDue (Ok bundle) (Ok request) code text = BuiltDue (unbuilt_of bundle) bundle request code text
+
+-- of `capacity`, by what its text is read as
+abbrev pub CapacityDue : Result Bundle ReadFault → ℕ → List ℕ → Type 0
+CapacityDue (Err fault) code text = IsRefused roles.Bundle fault code text
+CapacityDue (Ok bundle) code text = (code ≡ 0) × (text ≡ capacity_line (cost_of bundle))
+
+-- of `review` on two readable bundles: the first thing that can't be reviewed yet is refused, of the old one first
+abbrev pub PlainDue : Option (List ℕ) → Option (List ℕ) → Bundle → Bundle → ℕ → List ℕ → Type 0
+PlainDue (Some path) other old new code text = IsRefused roles.Old (NotBuilt path) code text
+PlainDue None (Some path) old new code text = IsRefused roles.New (NotBuilt path) code text
+PlainDue None None old new code text = IsEqual old new code text ⊎ IsDifferent old new code text
 
 -- of `review`, by what its two texts are read as; the old one comes first
-abbrev pub ReviewDue : Result Acl ReadFault → Result Acl ReadFault → ℕ → List ℕ → Type 0
+abbrev pub ReviewDue : Result Bundle ReadFault → Result Bundle ReadFault → ℕ → List ℕ → Type 0
 ReviewDue (Err fault) new code text = IsRefused roles.Old fault code text
 ReviewDue (Ok old) (Err fault) code text = IsRefused roles.New fault code text
-ReviewDue (Ok old) (Ok new) code text = IsEqual (bundle_of old) (bundle_of new) code text ⊎ IsDifferent (bundle_of old) (bundle_of new) code text
+ReviewDue (Ok old) (Ok new) code text = PlainDue (plain_form_of old) (plain_form_of new) old new code text
 
 -- what is due for a command on the bytes of its files, in their order
 abbrev pub Due : Command → List (List ℕ) → ℕ → List ℕ → Type 0
-Due (evaluate bundle request) (b ∷ r ∷ []) code text = EvaluateDue (web_acl_reading b) (request_reading r) code text
-Due (review old new) (o ∷ n ∷ []) code text = ReviewDue (web_acl_reading o) (web_acl_reading n) code text
+Due (evaluate bundle request) (b ∷ r ∷ []) code text = EvaluateDue (bundle_reading b) (request_reading r) code text
+Due (capacity bundle) (b ∷ []) code text = CapacityDue (bundle_reading b) code text
+Due (review old new) (o ∷ n ∷ []) code text = ReviewDue (bundle_reading o) (bundle_reading n) code text
 Due command contents code text = ⊥

@@ -8,9 +8,6 @@ pub mod Due
 pub mod Ended
 pub mod Files
 pub mod Fronts
-pub mod Ipv4
-pub mod RequestReading
 pub mod ReviewText
-pub mod Separators
 pub mod TextParts
 pub mod Texts

@@ -3,9 +3,10 @@
 ghost use Rattle.std.specs.Prelude.{◌≡◌, ◌++◌, OnOk, map};
 ghost use Rattle.waf_model.specs.AnswersText.{answers_text, group_answer_text, statement_answer_text, token_answer_text, verdict_name, kind_name};
 ghost use Rattle.wafreview.specs.TextParts.{up_to_kind, up_to_statements};
-ghost use Rattle.waf_model.specs.JsonText.{json_string, json_list, with_commas};
+ghost use Rattle.waf_model.specs.JsonText.{json_list, json_string, json_truth, with_commas};
 
-use crate::json_text::{push_decimal, push_separator, push_string, push_text, push_truth};
+use crate::decimal::push_decimal;
+use json_text::{push_separator, push_string, push_text};
 use std::alloc::Global;
 use waf_model::{
     Answers, GroupAnswer, Items, Memory, StatementAnswer, Text, TokenAnswer, TokenKind, Verdict,
@@ -42,6 +43,17 @@ fn push_kind(text: &mut Text, kind: TokenKind) -> Result<(), Memory>
     ensures { OnOk result (text.new ≡ text.old ++ json_string (kind_name kind)) }
 {
     push_string(text, kind_word(kind).as_bytes())
+}
+
+/// Writes `true` or `false`.
+fn push_truth(text: &mut Text, truth: bool) -> Result<(), Memory>
+    ensures { OnOk result (text.new ≡ text.old ++ json_truth truth) }
+{
+    if truth {
+        text.push(b"true")
+    } else {
+        text.push(b"false")
+    }
 }
 
 fn push_label_elements(text: &mut Text, labels: &[Text]) -> Result<(), Memory>

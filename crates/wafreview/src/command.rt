@@ -9,6 +9,8 @@ ghost use Rattle.wafreview.specs.CommandView.{command_view};
 pub(crate) enum Command<'a> {
     /// The outcome and the capacity of a bundle's web ACL on a request.
     Evaluate { bundle: &'a str, request: &'a str },
+    /// The capacity of a bundle's web ACL.
+    Capacity { bundle: &'a str },
     /// Whether two revisions decide alike.
     Review { old: &'a str, new: &'a str },
 }
@@ -28,8 +30,20 @@ pub(crate) fn command_of(words: &[String]) -> Option<Command<'_>>
     ensures { option_map command_view result ≡ command_of_words (map string_bytes words.now) }
 {
     match words {
+        [word, file] => sized(word.as_str(), file.as_str()),
         [word, first, second] => named(word.as_str(), first.as_str(), second.as_str()),
         _ => None,
+    }
+}
+
+/// The command of that name on one file.
+fn sized<'a>(word: &str, file: &'a str) -> Option<Command<'a>>
+    ensures { option_map command_view result ≡ command_of_words (word.now ∷ file.now ∷ []) }
+{
+    if is_file_word(file) && word == "capacity" {
+        Some(Command::Capacity { bundle: file })
+    } else {
+        None
     }
 }
 

@@ -4,14 +4,11 @@
 mod answer;
 mod answers_text;
 mod command;
-mod ipv4;
-mod json_text;
+mod decimal;
 mod named_files;
 mod refusal;
 mod report;
 mod reports;
-mod request_reading;
-mod request_text;
 mod review_text;
 mod role;
 mod running;

@@ -45,6 +45,19 @@ fn read_file<F: Files>(alloc: Global, files: &mut F, file: NamedRole<'_>) -> Res
     }
 }
 
+/// The bytes of the one file that a command names.
+pub(crate) fn read_one<F: Files>(
+    alloc: Global,
+    files: &mut F,
+    file: NamedRole<'_>,
+) -> Result<Vec<u8>, Ended>
+    ensures bytes { IfOk result (λ bytes. AreRead (F.tells files.old) ((file.entry.role, file.entry.name.now) ∷ []) (bytes.items ∷ [])) }
+    ensures ended { IfErr result (EndsAt (F.tells files.old) (F.sure files.old) (Rose (F.faults files.old) (F.faults files.new)) (Rose (F.long_reads files.old) (F.long_reads files.new)) ((file.entry.role, file.entry.name.now) ∷ [])) }
+{
+    let bytes = read_file(alloc, files, file)?;
+    Ok(bytes)
+}
+
 /// The bytes of two files, in the order in which they were read.
 #[derive(Drop)]
 pub(crate) struct TwoFiles {

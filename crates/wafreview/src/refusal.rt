@@ -5,7 +5,7 @@ ghost use Rattle.waf_model.specs.declared.read_fault.ReadFault.TheVariants as fa
 ghost use Rattle.wafreview.specs.Due.{IsRefused};
 ghost use Rattle.wafreview.specs.Texts.{fault_text, role_name, refused_text};
 
-use crate::json_text::push_decimal;
+use crate::decimal::push_decimal;
 use crate::report::Report;
 use crate::role::{Role, role_word};
 use std::alloc::Global;
@@ -23,6 +23,14 @@ pub(crate) fn refused(alloc: Global, role: Role, fault: &ReadFault) -> Result<Re
         code: 3,
         text: refused_line(alloc, role, fault)?,
     })
+}
+
+/// The report of what can't be done yet.
+pub(crate) fn not_built(alloc: Global, role: Role, path: Text) -> Result<Report, Memory>
+    ensures { IfOk result (λ report. IsRefused role (faults.NotBuilt path) report.code report.text) }
+{
+    let report = refused(alloc, role, &ReadFault::NotBuilt(path))?;
+    Ok(report)
 }
 
 /// The line of a text with a fault.

@@ -6,10 +6,10 @@ ghost use Rattle.wafreview.specs.ReviewText.{review_text};
 ghost use Rattle.wafreview.specs.DifferentParts.{old_text, decisions_text, up_to_request};
 
 use crate::answers_text::push_answers;
-use crate::json_text::push_decimal;
-use crate::request_text::push_request;
+use crate::decimal::push_decimal;
 use acl_eval::decision_word;
 use parting_build::{Parting, Review};
+use request_parts::write_request;
 use std::alloc::Global;
 use waf_model::{Decision, Memory, Text};
 
@@ -69,7 +69,7 @@ fn push_to_request(alloc: Global, text: &mut Text, parting: &Parting) -> Result<
 {
     push_decisions(text, parting)?;
     text.push(b"request ")?;
-    push_request(alloc, text, &parting.request)?;
+    text.push(write_request(alloc, &parting.request)?.bytes())?;
     text.push(b"\n")?;
     Ok(())
 }

@@ -5,18 +5,18 @@ ghost use Rattle.waf_base.specs.Counts.{Rose};
 ghost use Rattle.wafreview.specs.Answer.{HasCause};
 ghost use Rattle.wafreview.specs.Answered.{IsAnswered, Written};
 ghost use Rattle.wafreview.specs.AnswerOf.{IsDueOrMemory, ended_answer};
-ghost use Rattle.wafreview.specs.CommandLine.{command_of as command_of_words, evaluate, review};
-ghost use Rattle.waf_model.specs.WebAclReading.{web_acl_reading};
-ghost use Rattle.wafreview.specs.Due.{EvaluateDue, ReviewDue};
-ghost use Rattle.wafreview.specs.RequestReading.{request_reading};
+ghost use Rattle.wafreview.specs.CommandLine.{command_of as command_of_words, capacity, evaluate, review};
+ghost use Rattle.set_json.specs.Bundles.{bundle_reading};
+ghost use Rattle.wafreview.specs.Due.{CapacityDue, EvaluateDue, ReviewDue};
+ghost use Rattle.request_parts.specs.RequestReading.{request_reading};
 ghost use Rattle.wafreview.specs.declared.answer.Answer.TheVariants as answers;
 ghost use Rattle.wafreview.specs.CommandView.{command_view};
 
 use crate::answer::Answer;
 use crate::command::{Command, command_of};
-use crate::named_files::{Ended, NamedRole, TwoFiles, read_two};
+use crate::named_files::{Ended, NamedRole, TwoFiles, read_one, read_two};
 use crate::report::Report;
-use crate::reports::{evaluation_report, review_report};
+use crate::reports::{capacity_report, evaluation_report, review_report};
 use crate::role::Role;
 use crate::status::Status;
 use crate::writing::write_answer;
@@ -51,6 +51,7 @@ fn answer_of<F: Files>(alloc: Global, command: Command<'_>, files: &mut F) -> An
 {
     match command {
         Command::Evaluate { bundle, request } => evaluate_files(alloc, files, bundle, request),
+        Command::Capacity { bundle } => capacity_file(alloc, files, bundle),
         Command::Review { old, new } => review_files(alloc, files, old, new),
     }
 }
@@ -65,7 +66,7 @@ fn done(report: Report) -> Answer
 
 /// The work of `evaluate`.
 fn evaluation_answer(alloc: Global, read: &TwoFiles) -> Answer
-    ensures { IsDueOrMemory (EvaluateDue (web_acl_reading read.now.first.items) (request_reading read.now.second.items)) result }
+    ensures { IsDueOrMemory (EvaluateDue (bundle_reading read.now.first.items) (request_reading read.now.second.items)) result }
 {
     match evaluation_report(alloc, &read.first, &read.second) {
         Ok(report) => done(report),
@@ -73,9 +74,19 @@ fn evaluation_answer(alloc: Global, read: &TwoFiles) -> Answer
     }
 }
 
+/// The work of `capacity`.
+fn capacity_answer(alloc: Global, bundle: &[u8]) -> Answer
+    ensures { IsDueOrMemory (CapacityDue (bundle_reading bundle.now)) result }
+{
+    match capacity_report(alloc, bundle) {
+        Ok(report) => done(report),
+        Err(Memory) => Answer::NoMemory,
+    }
+}
+
 /// The work of `review`.
 fn review_answer(alloc: Global, read: &TwoFiles) -> Answer
-    ensures { IsDueOrMemory (ReviewDue (web_acl_reading read.now.first.items) (web_acl_reading read.now.second.items)) result }
+    ensures { IsDueOrMemory (ReviewDue (bundle_reading read.now.first.items) (bundle_reading read.now.second.items)) result }
 {
     match review_report(alloc, &read.first, &read.second) {
         Ok(report) => done(report),
@@ -108,6 +119,20 @@ fn evaluate_files<F: Files>(alloc: Global, files: &mut F, bundle: &str, request:
     };
     match read_two(alloc, files, bundle, request) {
         Ok(read) => evaluation_answer(alloc, &read),
+        Err(ended) => answer_at(ended),
+    }
+}
+
+/// The answer to `capacity`.
+fn capacity_file<F: Files>(alloc: Global, files: &mut F, bundle: &str) -> Answer
+    ensures { HasCause (F.tells files.old) (F.sure files.old) (Rose (F.faults files.old) (F.faults files.new)) (Rose (F.long_reads files.old) (F.long_reads files.new)) (Some (capacity bundle.now)) result }
+{
+    let bundle = NamedRole {
+        role: Role::Bundle,
+        name: bundle,
+    };
+    match read_one(alloc, files, bundle) {
+        Ok(read) => capacity_answer(alloc, &read),
         Err(ended) => answer_at(ended),
     }
 }

@@ -1,3 +1,4 @@
+mod bundles;
 mod printing;
 mod refusing;
 
@@ -147,7 +148,7 @@ fn the_first_rule_that_matches_decides(rt: HostRuntime) -> Result<(), Fail> {
         (
             bundle(alloc, &admin, ",\"RuleLabels\":[]")?,
             "/admin",
-            "3 refused bundle E0 $\n",
+            "0 decision BLOCK\nrule 0 a\ncapacity 2\n",
         ),
     ];
     for (bundle, uri, wanted) in &cases {
@@ -168,7 +169,21 @@ fn the_first_rule_that_matches_decides(rt: HostRuntime) -> Result<(), Fail> {
 fn the_first_fault_is_reported_alone(rt: HostRuntime) -> Result<(), Fail> {
     let alloc = rt.alloc();
     let cut = "{\"WebACL\":{\"Na";
-    let cases: [(&[&str], &str, &str, &[u64], &str); 10] = [
+    let cases: [(&[&str], &str, &str, &[u64], &str); 12] = [
+        (
+            &["evaluate", "one", "two"],
+            NO_RULES,
+            "{\"httpMethod\":\"GET\",\"uri\":\"/\",\"clientIp\":\"1.2.3\"}",
+            &[],
+            "3 refused request E10 $.clientIp\n",
+        ),
+        (
+            &["capacity", "one"],
+            cut,
+            REQUEST,
+            &[],
+            "3 refused bundle E1\n",
+        ),
         (
             &["evaluate", "one", "two"],
             cut,
@@ -188,14 +203,14 @@ fn the_first_fault_is_reported_alone(rt: HostRuntime) -> Result<(), Fail> {
             "[]",
             "[]",
             &[],
-            "3 refused bundle E0 $\n",
+            "3 refused bundle E2 $\n",
         ),
         (
             &["evaluate", "one", "two"],
             NO_RULES,
             NO_RULES,
             &[],
-            "3 refused request E0 $\n",
+            "3 refused request E2 $.httpMethod\n",
         ),
         (
             &["evaluate", "one", "two"],
@@ -252,9 +267,12 @@ fn other_words_are_usage(rt: HostRuntime) -> Result<(), Fail> {
     let alloc = rt.alloc();
     let usage =
         "2 usage: wafreview evaluate BUNDLE REQUEST [ANSWERS] | capacity BUNDLE | keys BUNDLE | review OLD NEW [--nodes N] | generate K\n";
-    let cases: [&[&str]; 9] = [
+    let cases: [&[&str]; 12] = [
         &[],
         &["evaluate"],
+        &["capacity"],
+        &["capacity", "-one"],
+        &["capacity", "one", "two"],
         &["review", "a"],
         &["generate", "0"],
         &["generate", "101"],

@@ -7,7 +7,7 @@ use serde_json::Value;
 use std::alloc::Global;
 use std::process::Abort;
 use std::test::Fail;
-use waf_model::{ReadFault, Statement, Text};
+use waf_model::{ReadFault, RegexSet, Statement, Text};
 
 const PATH: &str = "$.WebACL.Rules[0].Statement";
 
@@ -79,6 +79,7 @@ fn rule_answer(
 // The line of the statement of the rule `r` of a web ACL, where so many were read before, at most 20,000.
 fn web_acl_line(
     alloc: Global,
+    sets: &[RegexSet],
     encoding: Encoding,
     seen: u32,
     value: &Value,
@@ -86,17 +87,25 @@ fn web_acl_line(
     let rule = Text::of(alloc, b"r")?;
     let path = Text::of(alloc, PATH.as_bytes())?;
     let mut seen = seen.min(20_000);
-    let read = top_statement(alloc, encoding, &rule, value, &path, &mut seen);
+    let read = top_statement(alloc, sets, encoding, &rule, value, &path, &mut seen);
     top_answer(alloc, &read, seen)
 }
 
 // The same of the rule `r` of the group `g`.
-fn group_line(alloc: Global, encoding: Encoding, seen: u32, value: &Value) -> Result<String, Fail> {
+fn group_line(
+    alloc: Global,
+    sets: &[RegexSet],
+    encoding: Encoding,
+    seen: u32,
+    value: &Value,
+) -> Result<String, Fail> {
     let group = Text::of(alloc, b"g")?;
     let rule = Text::of(alloc, b"r")?;
     let path = Text::of(alloc, PATH.as_bytes())?;
     let mut seen = seen.min(20_000);
-    let read = rule_statement(alloc, encoding, &group, &rule, value, &path, &mut seen);
+    let read = rule_statement(
+        alloc, sets, encoding, &group, &rule, value, &path, &mut seen,
+    );
     rule_answer(alloc, &read, seen)
 }
 
@@ -106,18 +115,25 @@ fn parsed(alloc: Global, text: &str) -> Result<Value, Fail> {
 }
 
 // What the text is read as where so many statements were read before, or its fault.
-fn line_of(alloc: Global, reader: Reader, seen: u32, text: &str) -> Result<String, Fail> {
+fn line_of(
+    alloc: Global,
+    sets: &[RegexSet],
+    reader: Reader,
+    seen: u32,
+    text: &str,
+) -> Result<String, Fail> {
     let value = parsed(alloc, text)?;
     match reader {
-        Reader::WebAcl(encoding) => web_acl_line(alloc, encoding, seen, &value),
-        Reader::Group(encoding) => group_line(alloc, encoding, seen, &value),
+        Reader::WebAcl(encoding) => web_acl_line(alloc, sets, encoding, seen, &value),
+        Reader::Group(encoding) => group_line(alloc, sets, encoding, seen, &value),
     }
 }
 
 /// Each row of the table is a text, ` => ` and its line, or the beginning of its line and `...`; -- begins a remark.
-pub(crate) fn check(
+pub(crate) fn check_among(
     rt: &impl Abort,
     alloc: Global,
+    sets: &[RegexSet],
     reader: Reader,
     seen: u32,
     form: &str,
@@ -131,7 +147,7 @@ pub(crate) fn check(
             .split_once(" => ")
             .ok_or("a row is a text and its line")?;
         let text = text_of(alloc, form, text)?;
-        let line = line_of(alloc, reader, seen, text.as_str())?;
+        let line = line_of(alloc, sets, reader, seen, text.as_str())?;
         let wanted = spelled(alloc, wanted)?;
         match wanted.as_str().strip_suffix("...") {
             Some(front) => assert!(rt; line.as_str().starts_with(front), "{line}"),
@@ -139,4 +155,16 @@ pub(crate) fn check(
         }
     }
     Ok(())
+}
+
+/// The same where the bundle has no pattern set.
+pub(crate) fn check(
+    rt: &impl Abort,
+    alloc: Global,
+    reader: Reader,
+    seen: u32,
+    form: &str,
+    rows: &str,
+) -> Result<(), Fail> {
+    check_among(rt, alloc, &[], reader, seen, form, rows)
 }

@@ -11,5 +11,5 @@ use Rattle.statement_json.proofs.rate.rate.Goals as goal
 pub returns-clause-reading : goal.returns-clause-reading
 returns-clause-reading c =
     subst (Gives read_faults.Memory _ c.rate_of.result)
-    (sym (on_value (λ found at. rate_of (statement_within part_levels c.args.encoding) c.args.group.now c.args.rule.now (view c.args.v.now) c.args.seen.now found c.args.path.now at) (member_at (view c.args.v.now) (codes "RateBasedStatement") c.args.path.now) (view c.in_ok-found.found.now) (member_path c.args.path.now (codes "RateBasedStatement")) c.in_ok-at.at c.in_ok-found.ensures c.in_ok-at.ensures))
+    (sym (on_value (λ found at. rate_of (statement_within part_levels c.args.sets.now c.args.encoding) c.args.group.now c.args.rule.now (view c.args.v.now) c.args.seen.now found c.args.path.now at) (member_at (view c.args.v.now) (codes "RateBasedStatement") c.args.path.now) (view c.in_ok-found.found.now) (member_path c.args.path.now (codes "RateBasedStatement")) c.in_ok-at.at c.in_ok-found.ensures c.in_ok-at.ensures))
     c.rate_of.ensures.reading

@@ -24,5 +24,5 @@ decreases-of_inner_kind l = 5 * l.levels + 4
 
 abbrev pub invariant-parts_of-loop-found : goal.invariant-parts_of-loop-found
 invariant-parts_of-loop-found l =
-    (l.index ≡ l.found-index) × (l.seen ≤ most_statements)
-    × Behind (statement_within l.levels l.encoding) l.parts l.index (map view (drop l.found-index l.all)) l.seen (map view l.all) l.path l.initial.seen
+    (l.index ≡ l.found-index) × (l.seen ≤ most_statements) × (l.initial.seen ≤ l.seen)
+    × Behind (statement_within l.levels l.sets l.encoding) l.parts l.index (map view (drop l.found-index l.all)) l.seen (map view l.all) l.path l.initial.seen

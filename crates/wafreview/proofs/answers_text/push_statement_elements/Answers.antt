@@ -1,6 +1,6 @@
 use Rattle.std.proofs.Common.{arith}
 use Rattle.waf_model.specs.AnswersText.{statement_answer_text}
-use Rattle.wafreview.proofs.Commas.{commas_step}
+use Rattle.json_text.proofs.Commas.{commas_step}
 use Rattle.wafreview.proofs.answers_text.push_statement_elements.Goals as goal
 
 pub loop-place-preserved : goal.loop-place-preserved

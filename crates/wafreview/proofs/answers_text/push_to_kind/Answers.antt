@@ -1,7 +1,7 @@
 use Rattle.std.proofs.Common.{◌++◌, codes, decimal}
 use Rattle.waf_model.specs.AnswersText.{kind_name}
 use Rattle.waf_model.specs.JsonText.{json_string}
-use Rattle.wafreview.proofs.Pushed.{pushed}
+use Rattle.json_text.proofs.Pushed.{pushed}
 use Rattle.wafreview.proofs.answers_text.push_to_kind.Goals as goal
 
 pub returns : goal.returns

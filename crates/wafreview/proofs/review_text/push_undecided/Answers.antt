@@ -1,5 +1,5 @@
 use Rattle.std.proofs.Common.{◌++◌, codes, decimal}
-use Rattle.wafreview.proofs.Pushed.{pushed}
+use Rattle.json_text.proofs.Pushed.{pushed}
 use Rattle.wafreview.proofs.review_text.push_undecided.Goals as goal
 
 pub returns : goal.returns

@@ -1,0 +1,6 @@
+//! Writes JSON texts.
+#![tactic(auto)]
+
+mod writing;
+
+pub use writing::{push_separator, push_string, push_text};

@@ -1,0 +1,13 @@
+pub mod Tokens
+pub mod Places
+pub mod Cutting
+pub mod Cases
+pub mod Tallied
+pub mod Totals
+pub mod Addresses
+pub mod Escapes
+pub mod Trees
+pub mod Data
+pub mod Ascii
+pub mod ReadBack
+pub mod Longest

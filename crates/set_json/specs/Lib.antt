@@ -1,0 +1,5 @@
+pub mod Bundles
+pub mod Lists
+pub mod Missing
+pub mod Sets
+pub mod Whole

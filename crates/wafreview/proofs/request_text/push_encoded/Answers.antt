@@ -1,5 +1,0 @@
-use Rattle.wafreview.proofs.Pushed.{pushed}
-use Rattle.wafreview.proofs.request_text.push_encoded.Goals as goal
-
-pub returns : goal.returns
-returns c = pushed _ _ _ _ _ c.in_ok-push.ensures.ok c.in_ok-push_base64.ensures

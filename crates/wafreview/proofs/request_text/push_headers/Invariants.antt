@@ -1,8 +1,0 @@
-use Rattle.std.proofs.Common.{◌≡◌, ◌++◌, take, map}
-use Rattle.waf_model.specs.JsonText.{with_commas}
-use Rattle.waf_model.specs.RequestText.{header_text}
-use Rattle.wafreview.proofs.request_text.push_headers.Given as goal
-
--- the headers so far are written
-abbrev pub invariant-loop-place : goal.invariant-loop-place
-invariant-loop-place l = l.text ≡ l.fn.text ++ with_commas (map header_text (take l.place l.headers))
