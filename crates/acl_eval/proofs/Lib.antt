@@ -1,5 +1,10 @@
-pub mod Before
-pub mod Conditions
-pub mod FirstInFile
-pub mod Joined
-pub mod PathMatch
+mod Among
+mod Apart
+mod Evaluated
+mod Firings
+mod Grouped
+mod Lists
+mod Matching
+mod OneOutcome
+mod OneStep
+mod Places

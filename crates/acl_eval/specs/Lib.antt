@@ -1,2 +1,2 @@
-pub mod Answered
-pub mod Unbuilt
+pub mod Trying
+pub mod Walk

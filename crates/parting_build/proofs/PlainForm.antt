@@ -1,14 +1,10 @@
--- What `plain_form` tests is the form in words, and the evaluator takes that form.
-use Rattle.std.proofs.Common.{◌≡◌, ℕ, zero, suc, ◌≤◌, ◌↔◌, ◌&&◌, List, [], ◌∷◌, length, codes, get_or, nat_eq, nat_lt, Bool, true, false, if◌then◌else◌, Option, Some, None, slice_get, refl, subst, ◌∙◌, arith}
+-- What `plain_form` tests is the form in words.
+use Rattle.std.proofs.Common.{◌≡◌, ℕ, zero, suc, ◌≤◌, ◌↔◌, ◌&&◌, List, [], ◌∷◌, length, codes, get_or, nat_eq, nat_lt, Bool, true, false, if◌then◌else◌, Option, Some, None, slice_get, refl, subst, arith}
 use Rattle.std.specs.List.{All, list_all}
 use Rattle.std.proofs.lemmas.Bool.{false≢true}
 use Rattle.std.proofs.lemmas.Bool.Decides.{nat_tests}
 use Rattle.std.proofs.lemmas.List.Elements.{All-head, All-tail}
 use Rattle.std.proofs.lemmas.Option.{slice_get_within, get_or_from_slice_get, slice_get-get_or}
-use Rattle.acl_eval.specs.Unbuilt.{asks_nothing, first_in_file, is_simple, is_whole_path, keeps_all, path_of_rule, unbuilt_of, unbuilt_rule, unbuilt_top, unbuilt_within}
-use Rattle.acl_eval.proofs.Conditions.{unbuilt-ByteMatch}
-use Rattle.acl_eval.proofs.FirstInFile.{none_at, none_first}
-use Rattle.acl_eval.proofs.Joined.{both_true}
 use Rattle.waf_model.specs.declared.action.Action.{Action}
 use Rattle.waf_model.specs.declared.action.Action.TheVariants as actions
 use Rattle.waf_model.specs.declared.bundle.Bundle.{Bundle}
@@ -23,7 +19,14 @@ use Rattle.waf_model.specs.declared.statement.Statement.{Statement}
 use Rattle.waf_model.specs.declared.statement.Statement.TheVariants.{ByteMatch}
 use Rattle.waf_model.specs.declared.transform.Transform.{Transform}
 use Rattle.waf_model.specs.declared.transform.Transform.TheVariants.{KeepAll}
+use Rattle.parting_build.specs.FirstInFile.{first_in_file, path_of_rule}
 use Rattle.parting_build.specs.Plain.{IsPathMatch, IsAllowOrBlock, IsPathRule, HasPathRules, is_path_match, allows_or_blocks, is_path_rule, most_rules, plain_form_of, unplain_rule}
+use Rattle.parting_build.specs.WholePath.{is_whole_path, keeps_all}
+use Rattle.parting_build.proofs.FirstInFile.{none_at, none_first}
+
+both_true : (a b : Bool) → (a && b) ≡ true → (a ≡ true) × (b ≡ true)
+both_true true b is = (refl, is)
+both_true false b is = absurd (false≢true is)
 
 -- ---- the test of a statement
 
@@ -123,30 +126,3 @@ plain_from bundle rules few_rules =
 -- the test is the form in words
 pub plain_form_is : (bundle : Bundle) → (plain_form_of bundle ≡ None) ↔ (HasPathRules bundle × (length bundle.acl.rules ≤ most_rules))
 plain_form_is bundle = (λ is. (has_path_rules bundle is, has_few_rules bundle is), λ is. plain_from bundle is.0 is.1)
-
--- ---- what is evaluated
-
-asks_nothing_from : (action : Action) → allows_or_blocks action ≡ true → asks_nothing action ≡ true
-asks_nothing_from actions.Allow is = refl
-asks_nothing_from (actions.Block code) is = refl
-asks_nothing_from action is = absurd (cc)
-
-built_statement : (statement : Statement) → is_path_match statement ≡ true → unbuilt_within statement ≡ None
-built_statement (ByteMatch wanted field ts position) is = unbuilt-ByteMatch wanted field ts position ∙ rw is
-built_statement statement is = absurd (cc)
-
-both : (a b : Bool) → a ≡ true → b ≡ true → (a && b) ≡ true
-both a b first second = rw (first, second)
-
-built_top : (body : Top) (path : List ℕ) → is_path_rule body ≡ true → unbuilt_top body path ≡ None
-built_top (Plain rule) path is =
-    let parts = both_true (is_path_match rule.statement) _ is in
-    let rest = both_true (allows_or_blocks rule.action) _ parts.1 in
-    let simple : is_simple rule ≡ true = both _ _ rest.1 (asks_nothing_from rule.action rest.0) in
-    rw simple (rw (built_statement rule.statement parts.0))
-built_top body path is = absurd (cc)
-
--- the evaluator takes such a web ACL
-pub nothing_unbuilt : (bundle : Bundle) → plain_form_of bundle ≡ None → unbuilt_of bundle ≡ None
-nothing_unbuilt bundle is =
-    none_first unbuilt_rule bundle.acl.rules (λ i rule stands. built_top rule.body (path_of_rule rule.place) (passes_at bundle i rule is stands))

@@ -1,7 +1,6 @@
 -- The web ACLs that are reviewed yet: at most 1,000 rules, each of which allows or blocks by a match of the whole path
 -- (this project's own).
 use Rattle.std.specs.Prelude.{ℕ, ◌≡◌, List, [], length, codes, Bool, true, false, ◌&&◌, ◌==◌, nat_lt, if◌then◌else◌, All, Option, Some, None}
-use Rattle.acl_eval.specs.Unbuilt.{first_in_file, is_whole_path, path_of_rule}
 use Rattle.waf_model.specs.declared.action.Action.{Action}
 use Rattle.waf_model.specs.declared.action.Action.TheVariants as actions
 use Rattle.waf_model.specs.declared.bundle.Bundle.{Bundle}
@@ -13,6 +12,8 @@ use Rattle.waf_model.specs.declared.rule.TopRule.{TopRule}
 use Rattle.waf_model.specs.declared.statement.Statement.{Statement}
 use Rattle.waf_model.specs.declared.statement.Statement.TheVariants.{ByteMatch}
 use Rattle.waf_model.specs.declared.transform.Transform.TheVariants.{KeepAll}
+use Rattle.parting_build.specs.FirstInFile.{first_in_file, path_of_rule}
+use Rattle.parting_build.specs.WholePath.{is_whole_path}
 
 -- the most rules of a web ACL that is reviewed, as long as a review tries each path
 abbrev pub most_rules : ℕ

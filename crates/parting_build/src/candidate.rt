@@ -3,10 +3,10 @@
 ghost use Rattle.std.specs.Prelude.{◌≡◌, IsTrue, IfOk, IfSome, None, MatchOption};
 ghost use Rattle.std.specs.List.{list_all};
 ghost use Rattle.waf_model.specs.Alike.{Decides, Parts, no_answers};
+ghost use Rattle.waf_model.specs.WholeBundle.{IsWhole};
 ghost use Rattle.waf_model.specs.declared.action.Decision.{Decision};
 ghost use Rattle.waf_model.specs.Within.{is_path as path_test, is_path_byte as path_byte_test};
 ghost use Rattle.parting_build.specs.Candidate.{AlikeAt, plain_get};
-ghost use Rattle.parting_build.specs.Plain.{plain_form_of};
 
 use crate::verdict::Parting;
 use acl_eval::{evaluate, one_outcome};
@@ -61,7 +61,7 @@ fn none_answered(alloc: Global) -> Answers
 
 /// What the bundle's web ACL decides of the request that is tried for the path.
 fn decision_at(alloc: Global, bundle: &Bundle, path: &[u8]) -> Result<Decision, Memory>
-    requires plain { plain_form_of bundle.now ≡ None }
+    requires whole { IsWhole bundle.now }
     ensures decides { IfOk result (Decides bundle.now (plain_get path.now) no_answers) }
     ensures alone { IfOk result (λ decision. (other : Decision) → Decides bundle.now (plain_get path.now) no_answers other → other ≡ decision) }
 {
@@ -79,8 +79,8 @@ pub(crate) fn parting_at(
     new: &Bundle,
     path: &[u8],
 ) -> Result<Option<Parting>, Memory>
-    requires old_plain { plain_form_of old.now ≡ None }
-    requires new_plain { plain_form_of new.now ≡ None }
+    requires old_whole { IsWhole old.now }
+    requires new_whole { IsWhole new.now }
     ensures found { IfOk result (λ found. IfSome found (λ parting. Parts old.now new.now parting.request parting.answers parting.old parting.new × (parting.request ≡ plain_get path.now))) }
     ensures none { IfOk result (λ found. found ≡ None → IsTrue (path_test path.now) → AlikeAt old.now new.now path.now) }
 {

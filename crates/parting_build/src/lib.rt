@@ -6,6 +6,7 @@ mod named;
 mod plain;
 mod revisions;
 mod verdict;
+mod whole_path;
 
 pub use plain::{plain_form, plain_form_is_path_rules};
 pub use revisions::review;

@@ -1,11 +1,11 @@
 //! Which web ACLs are reviewed yet.
 
 ghost use Rattle.std.specs.Prelude.{◌≡◌, ◌≤◌, ◌↔◌, IfOk, ◌&&◌, ◌==◌, None, Some, codes, fold, length, option_map};
-ghost use Rattle.acl_eval.specs.Unbuilt.{earlier, path_of_rule as rule_path};
+ghost use Rattle.parting_build.specs.FirstInFile.{earlier, path_of_rule as rule_path};
 ghost use Rattle.parting_build.specs.Plain.{HasPathRules, allows_or_blocks as allows_or_blocks_test, is_path_match as path_match_test, is_path_rule as path_rule_test, most_rules, placed, plain_form_of, unplain_rule};
 ghost use Rattle.waf_model.specs.declared.bundle.Bundle.{Bundle as BundleData};
 
-use acl_eval::{is_whole_path, path_of_rule};
+use crate::whole_path::is_whole_path;
 use std::alloc::Global;
 use waf_model::{Action, Bundle, Memory, Rule, Statement, Text, Top, TopRule};
 
@@ -40,6 +40,17 @@ fn path_at(alloc: Global, place: Option<u32>) -> Result<Option<Text>, Memory>
         None => Ok(None),
         Some(place) => Ok(Some(path_of_rule(alloc, place)?)),
     }
+}
+
+/// The path of the rule of the web ACL at that place in the file.
+fn path_of_rule(alloc: Global, place: u32) -> Result<Text, Memory>
+    ensures { IfOk result (λ path. path ≡ rule_path place) }
+{
+    let mut path = Text::of(alloc, b"$.WebACL.Rules")?;
+    path.push(b"[")?;
+    path.push_number(alloc, u64::from(place))?;
+    path.push(b"]")?;
+    Ok(path)
 }
 
 /// The least place of a rule that isn't of the form.

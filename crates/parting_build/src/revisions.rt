@@ -2,6 +2,7 @@
 
 ghost use Rattle.std.specs.Prelude.{◌≡◌, [], ℕ, List, IsTrue, None, IfOk, IfErr, IfSome};
 ghost use Rattle.waf_model.specs.Alike.{Alike, Parts};
+ghost use Rattle.waf_model.specs.WholeBundle.{IsWhole};
 ghost use Rattle.waf_model.specs.Within.{is_path};
 ghost use Rattle.parting_build.specs.Candidate.{AlikeAt};
 ghost use Rattle.parting_build.specs.Named.{names};
@@ -17,14 +18,17 @@ use waf_base::Meter;
 use waf_model::{Bundle, Memory, TopRule};
 
 /// Whether the two decide alike on every request within the limits, or else a request that parts them, whose headers
-/// have the fewest bytes. `plain_form` names nothing of either: each has at most 1,000 rules, which match the whole path
-/// and allow or block. The answer comes without a node, so the meter stays; it fails only for want of memory.
+/// have the fewest bytes. Each is whole, as what is read is, and `plain_form` names nothing of it: it has at most 1,000
+/// rules, which match the whole path and allow or block. The answer comes without a node, so the meter stays; it fails
+/// only for want of memory.
 pub fn review(
     alloc: Global,
     old: &Bundle,
     new: &Bundle,
     meter: &mut Meter,
 ) -> Result<Review, ReviewStop>
+    requires old_whole { IsWhole old.now }
+    requires new_whole { IsWhole new.now }
     requires old_plain { plain_form_of old.now ≡ None }
     requires new_plain { plain_form_of new.now ≡ None }
     ensures answer { IfOk result (IsReview old.now new.now) }
@@ -45,8 +49,8 @@ fn tried_rules(
     new: &Bundle,
     rules: &[TopRule],
 ) -> Result<Option<Parting>, Memory>
-    requires old_plain { plain_form_of old.now ≡ None }
-    requires new_plain { plain_form_of new.now ≡ None }
+    requires old_whole { IsWhole old.now }
+    requires new_whole { IsWhole new.now }
     ensures found { IfOk result (λ found. IfSome found (λ parting. Parts old.now new.now parting.request parting.answers parting.old parting.new × (parting.request.headers ≡ []))) }
     ensures none { IfOk result (λ found. found ≡ None → (path : List ℕ) → IsTrue (names rules.now path) → IsTrue (is_path path) → AlikeAt old.now new.now path) }
 {
@@ -61,6 +65,8 @@ fn tried_rules(
 
 /// A request that parts the two, if there is one.
 fn find_parting(alloc: Global, old: &Bundle, new: &Bundle) -> Result<Option<Parting>, Memory>
+    requires old_whole { IsWhole old.now }
+    requires new_whole { IsWhole new.now }
     requires old_plain { plain_form_of old.now ≡ None }
     requires new_plain { plain_form_of new.now ≡ None }
     ensures found { IfOk result (λ found. IfSome found (λ parting. Parts old.now new.now parting.request parting.answers parting.old parting.new × (parting.request.headers ≡ []))) }

@@ -1,9 +1,8 @@
-//! What bars a review is named by its path, and two revisions that part are told apart.
+//! What bars a review is named by its path. That reviews tell two revisions apart is tested through the program.
 
-use crate::{Review, plain_form, review};
+use crate::plain_form;
 use std::alloc::Global;
 use std::test::Fail;
-use waf_base::Meter;
 use waf_model::{
     Acl, Action, Boxed, Bundle, Decision, Field, GroupUse, Items, Memory, Position, Rule,
     Statement, Text, Top, TopRule, Transform,
@@ -234,48 +233,6 @@ fn a_thousand_rules_are_taken(rt: HostRuntime) -> Result<(), Fail> {
         match path {
             None => assert!(rt; wanted.is_none(), "{kind:?} {count}"),
             Some(path) => assert_eq!(rt; Some(path.bytes()), *wanted, "{kind:?} {count}"),
-        }
-    }
-    Ok(())
-}
-
-/// The path that parts two web ACLs, or nothing where they decide alike; `none` where one is not reviewed.
-fn parting_path(
-    alloc: Global,
-    old: &[(Kind, u32)],
-    new: &[(Kind, u32)],
-) -> Result<Option<Text>, Memory> {
-    let old = bundle_of(alloc, old)?;
-    let new = bundle_of(alloc, new)?;
-    if plain_form(alloc, &old)?.is_some() || plain_form(alloc, &new)?.is_some() {
-        return Ok(Some(Text::of(alloc, b"none")?));
-    }
-    let mut meter = Meter::new(1);
-    match review(alloc, &old, &new, &mut meter) {
-        Ok(Review::Different(parting)) => Ok(Some(parting.request.path)),
-        Ok(_) => Ok(None),
-        Err(_) => Err(Memory),
-    }
-}
-
-const REVIEWS: [(&[(Kind, u32)], &[(Kind, u32)], Option<&[u8]>); 4] = [
-    (&[(Kind::Path(BLOCK), 0)], &[], Some(b"/x")),
-    (&[(Kind::Path(Action::Allow), 0)], &[], None),
-    (
-        &[(Kind::Path(Action::Allow), 1), (Kind::Path(BLOCK), 0)],
-        &[],
-        None,
-    ),
-    (&[(Kind::Labelled, 0)], &[], Some(b"none")),
-];
-
-#[test]
-fn revisions_that_part_are_told_apart(rt: HostRuntime) -> Result<(), Fail> {
-    let alloc = rt.alloc();
-    for (old, new, wanted) in REVIEWS.iter() {
-        match parting_path(alloc, old, new)? {
-            None => assert!(rt; wanted.is_none(), "{old:?}"),
-            Some(path) => assert_eq!(rt; Some(path.bytes()), *wanted, "{old:?}"),
         }
     }
     Ok(())

@@ -2,8 +2,8 @@
 #![tactic(auto)]
 
 mod builder;
+mod finding;
 mod matcher;
 mod place;
-mod search;
 
-pub use search::hits;
+pub use finding::{Search, hits};

@@ -2,6 +2,7 @@
 
 ghost use Rattle.std.specs.Prelude.{◌≡◌, ◌||◌};
 ghost use Rattle.waf_model.specs.Pattern.{has_byte};
+ghost use Rattle.pattern_match.specs.Shapes.{IsFresh, shape};
 ghost use Rattle.pattern_match.specs.Steps.{stepped, ends_after};
 
 use crate::place::Place;
@@ -53,6 +54,29 @@ fn has(set: &ByteSet, byte: u8) -> bool
 }
 
 impl Matcher {
+    /// Goes back to before the first place: of an earlier text nothing stays.
+    pub(crate) fn clear(&mut self)
+        ensures fresh { IsFresh self.new }
+        ensures kept { shape self.new ≡ shape self.old }
+    {
+        match self {
+            Matcher::Both(first, ends, second) => {
+                first.clear();
+                ends.through = false;
+                second.clear();
+            }
+            Matcher::Either(first, second) => {
+                first.clear();
+                second.clear();
+            }
+            Matcher::Star(inner, through) => {
+                inner.clear();
+                *through = false;
+            }
+            _ => {}
+        }
+    }
+
     /// Moves on to the next place, over the byte: the matcher was entered at the place before or not. It answers how
     /// matches end at the new place.
     pub(crate) fn advance(&mut self, entered: bool, byte: u8, place: Place) -> Ends

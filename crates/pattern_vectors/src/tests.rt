@@ -1,7 +1,7 @@
 //! The grammar line by line, each pattern with a text that it is found in or not; expected values were worked out by
 //! hand from the grammar.
 
-use pattern_match::hits;
+use pattern_match::{Search, hits};
 use pattern_read::read_pattern;
 use std::alloc::Global;
 use std::test::Fail;
@@ -314,6 +314,64 @@ fn groups_are_read(rt: HostRuntime) -> Result<(), Fail> {
             *wanted,
             "{pattern:?} in {text:?}"
         );
+    }
+    Ok(())
+}
+
+/// Patterns, each with texts that one search goes through in this order.
+const TEXTS_IN_A_ROW: [(&[u8], [(&[u8], bool); 4]); 6] = [
+    (
+        b"ab",
+        [(b"xa", false), (b"b", false), (b"ab", true), (b"b", false)],
+    ),
+    (
+        b"^a*$",
+        [(b"aa", true), (b"ab", false), (b"", true), (b"b", false)],
+    ),
+    (
+        b"\\x00a",
+        [
+            (b"a", false),
+            (b"\x00", false),
+            (b"a", false),
+            (b"\x00a", true),
+        ],
+    ),
+    (
+        b"^[\\x00-\\x01]+$",
+        [
+            (b"\x00\x01\x00", true),
+            (b"", false),
+            (b"\x00a", false),
+            (b"\x00", true),
+        ],
+    ),
+    (
+        b"[^a]",
+        [(b"", false), (b"a", false), (b"\x00", true), (b"", false)],
+    ),
+    (
+        b"(ab)+c",
+        [
+            (b"aba", false),
+            (b"bc", false),
+            (b"c", false),
+            (b"abc", true),
+        ],
+    ),
+];
+
+#[test]
+fn one_search_goes_through_many_texts(rt: HostRuntime) -> Result<(), Fail> {
+    let alloc = rt.alloc();
+    for (pattern, texts) in TEXTS_IN_A_ROW.iter() {
+        let Some(read) = read_pattern(alloc, pattern)? else {
+            panic!(rt; "{pattern:?} is outside");
+        };
+        let mut search = Search::of(alloc, &read)?;
+        for (text, wanted) in texts.iter() {
+            assert_eq!(rt; search.found_in(text), *wanted, "{pattern:?} in {text:?}");
+        }
     }
     Ok(())
 }

@@ -17,6 +17,7 @@ mod writing;
 
 pub use laws::reads_back;
 pub use named_piece::{NamedPiece, arguments, cookies};
+pub use names::header_value;
 pub use oversize::oversized;
 pub use reading::read_request;
 pub use showing::parts;

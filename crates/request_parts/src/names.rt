@@ -54,8 +54,9 @@ pub(crate) fn selects_cookie(filter: &Filter, name: &[u8]) -> bool
     }
 }
 
-/// The value of the first header of that name, if there is one.
-pub(crate) fn header_value<'a>(request: &'a Request, name: &[u8]) -> Option<&'a [u8]>
+/// The value of the first header of that name, in letters of either case, if the request has one (RFC 9110, "Field
+/// Names").
+pub fn header_value<'a>(request: &'a Request, name: &[u8]) -> Option<&'a [u8]>
     ensures { option_map (λ value. value.now) result ≡ value_of_header request.now name.now }
 {
     for header in request.headers.as_slice() {

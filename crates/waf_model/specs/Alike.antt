@@ -26,8 +26,7 @@ pair_limit old new = min old.acl.body_limit new.acl.body_limit
 abbrev pub Decides : Bundle → Request → Answers → Decision → Type 0
 Decides bundle request answers decision = (outcome : Outcome) × IsOutcome bundle request answers outcome × (outcome.decision ≡ decision)
 
--- on every request within the limits, and under all common lawful answers, the decisions are equal, codes included; said
--- of bundles whose outcomes are defined
+-- on every request within the limits, and under all common lawful answers, the decisions are equal, codes included
 abbrev pub Alike : Bundle → Bundle → Type 0
 Alike old new = (request : Request) (answers : Answers) (d e : Decision) → Within request (pair_limit old new) → IsLawful answers
     → Decides old request answers d → Decides new request answers e → d ≡ e

@@ -1,13 +1,18 @@
 pub mod AddressRange
 pub mod AddressText
 pub mod Alike
+pub mod Answered
 pub mod AnswersText
 pub mod Cost
+pub mod EffectiveActions
+pub mod Firing
+pub mod ForwardedAddress
 pub mod Gives
 pub mod Holds
 pub mod Inspected
 pub mod Json
 pub mod JsonText
+pub mod LabelMatch
 pub mod Letters
 pub mod NamedPieces
 pub mod Outcome
@@ -25,6 +30,7 @@ pub mod RequestText
 pub mod Shown
 pub mod SoundStatement
 pub mod StatementCount
+pub mod Steps
 pub mod TransformBytes
 pub mod TransformComments
 pub mod TransformEncodings

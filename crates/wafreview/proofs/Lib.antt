@@ -1,4 +1,4 @@
 pub mod TakenMore
 pub mod Reviewed
 pub mod DueAnswers
-pub mod Refused
+pub mod LaterEnd

@@ -1,7 +1,8 @@
 -- The text and the status that are due for a command on the bytes of its files (this project's own): the first text with a
--- fault is refused, then the first thing that can't be evaluated or reviewed yet, and otherwise the command's work is done.
+-- fault is refused, then the first thing that can't be reviewed yet, and otherwise the command's work is done.
 use Rattle.std.specs.Prelude.{ℕ, ◌≡◌, ◌⊎◌, List, [], ◌∷◌, Option, Some, None, Result, Ok, Err}
-use Rattle.acl_eval.specs.Unbuilt.{unbuilt_of}
+use Rattle.answer_book.specs.AnswersReading.{answers_reading}
+use Rattle.answer_book.specs.Keys.{Ascend, group_keys, statement_keys, text_order, token_keys, token_order}
 use Rattle.parting_build.specs.Plain.{plain_form_of}
 use Rattle.waf_model.specs.Alike.{Alike, Parts, no_answers}
 use Rattle.waf_model.specs.Cost.{cost_of}
@@ -10,6 +11,7 @@ use Rattle.waf_model.specs.Printed.{capacity_line, outcome_text, equal_text, dif
 use Rattle.waf_model.specs.RequestText.{request_text}
 use Rattle.waf_model.specs.declared.action.Decision.{Decision}
 use Rattle.waf_model.specs.declared.answers.Answers.{Answers}
+use Rattle.waf_model.specs.declared.answers.TokenKey.{TokenKey}
 use Rattle.waf_model.specs.declared.bundle.Bundle.{Bundle}
 use Rattle.waf_model.specs.declared.outcome.Outcome.{Outcome}
 use Rattle.waf_model.specs.declared.read_fault.ReadFault.{ReadFault}
@@ -18,7 +20,8 @@ use Rattle.waf_model.specs.declared.request.Request.{Request}
 use Rattle.parting_build.specs.Reviewed.{HasLeastHeaderBytes}
 use Rattle.request_parts.specs.RequestReading.{request_reading}
 use Rattle.set_json.specs.Bundles.{bundle_reading}
-use Rattle.wafreview.specs.CommandLine.{Command, evaluate, capacity, review}
+use Rattle.wafreview.specs.CommandLine.{Command, evaluate, capacity, keys, review}
+use Rattle.wafreview.specs.KeysText.{keys_text}
 use Rattle.wafreview.specs.Texts.{refused_text}
 use Rattle.wafreview.specs.declared.role.Role.{Role}
 use Rattle.wafreview.specs.declared.role.Role.TheVariants as roles
@@ -27,12 +30,29 @@ use Rattle.wafreview.specs.declared.role.Role.TheVariants as roles
 abbrev pub IsRefused : Role → ReadFault → ℕ → List ℕ → Type 0
 IsRefused role fault code text = (code ≡ 3) × (text ≡ refused_text role fault)
 
+-- what the answers are read as; there are none where no file of answers is named
+abbrev pub given_reading : Option (List ℕ) → Result Answers ReadFault
+given_reading None = Ok no_answers
+given_reading (Some bytes) = answers_reading bytes
+
 -- the outcome and the capacity are printed
-pub record IsEvaluated (bundle : Bundle) (request : Request) (code : ℕ) (text : List ℕ) : Type 0 where
+pub record IsEvaluated (bundle : Bundle) (request : Request) (answers : Answers) (code : ℕ) (text : List ℕ) : Type 0 where
   pub outcome : Outcome
-  pub is_outcome : IsOutcome bundle request no_answers outcome
+  pub is_outcome : IsOutcome bundle request answers outcome
   pub status : code ≡ 0
   pub printed : text ≡ outcome_text outcome (cost_of bundle)
+
+-- the keys of the bundle's questions are printed: those of statements, of managed rule groups and of tokens, each once and in
+-- ascending order
+pub record HasKeys (bundle : Bundle) (code : ℕ) (text : List ℕ) : Type 0 where
+  pub statements : List (List ℕ)
+  pub groups : List (List ℕ)
+  pub tokens : List TokenKey
+  pub of_statements : Ascend text_order (statement_keys bundle) statements
+  pub of_groups : Ascend text_order (group_keys bundle) groups
+  pub of_tokens : Ascend token_order (token_keys bundle) tokens
+  pub status : code ≡ 0
+  pub printed : text ≡ keys_text statements groups tokens
 
 -- EQUAL is printed, and the two decide alike
 pub record IsEqual (old new : Bundle) (code : ℕ) (text : List ℕ) : Type 0 where
@@ -53,21 +73,22 @@ pub record IsDifferent (old new : Bundle) (code : ℕ) (text : List ℕ) : Type 
   pub status : code ≡ 1
   pub printed : text ≡ different_text before after request answers
 
--- of `evaluate` on a readable bundle and request: the first thing that can't be evaluated yet is refused
-abbrev pub BuiltDue : Option (List ℕ) → Bundle → Request → ℕ → List ℕ → Type 0
-BuiltDue (Some path) bundle request code text = IsRefused roles.Bundle (NotBuilt path) code text
-BuiltDue None bundle request code text = IsEvaluated bundle request code text
-
--- of `evaluate`, by what its two texts are read as; the bundle comes first
-abbrev pub EvaluateDue : Result Bundle ReadFault → Result Request ReadFault → ℕ → List ℕ → Type 0
-EvaluateDue (Err fault) request code text = IsRefused roles.Bundle fault code text
-EvaluateDue (Ok bundle) (Err fault) code text = IsRefused roles.Request fault code text
-EvaluateDue (Ok bundle) (Ok request) code text = BuiltDue (unbuilt_of bundle) bundle request code text
+-- of `evaluate`, by what its texts are read as; the bundle comes first, and the request before the answers
+abbrev pub EvaluateDue : Result Bundle ReadFault → Result Request ReadFault → Result Answers ReadFault → ℕ → List ℕ → Type 0
+EvaluateDue (Err fault) request answers code text = IsRefused roles.Bundle fault code text
+EvaluateDue (Ok bundle) (Err fault) answers code text = IsRefused roles.Request fault code text
+EvaluateDue (Ok bundle) (Ok request) (Err fault) code text = IsRefused roles.Answers fault code text
+EvaluateDue (Ok bundle) (Ok request) (Ok answers) code text = IsEvaluated bundle request answers code text
 
 -- of `capacity`, by what its text is read as
 abbrev pub CapacityDue : Result Bundle ReadFault → ℕ → List ℕ → Type 0
 CapacityDue (Err fault) code text = IsRefused roles.Bundle fault code text
 CapacityDue (Ok bundle) code text = (code ≡ 0) × (text ≡ capacity_line (cost_of bundle))
+
+-- of `keys`, by what its text is read as
+abbrev pub KeysDue : Result Bundle ReadFault → ℕ → List ℕ → Type 0
+KeysDue (Err fault) code text = IsRefused roles.Bundle fault code text
+KeysDue (Ok bundle) code text = HasKeys bundle code text
 
 -- of `review` on two readable bundles: the first thing that can't be reviewed yet is refused, of the old one first
 abbrev pub PlainDue : Option (List ℕ) → Option (List ℕ) → Bundle → Bundle → ℕ → List ℕ → Type 0
@@ -83,7 +104,9 @@ ReviewDue (Ok old) (Ok new) code text = PlainDue (plain_form_of old) (plain_form
 
 -- what is due for a command on the bytes of its files, in their order
 abbrev pub Due : Command → List (List ℕ) → ℕ → List ℕ → Type 0
-Due (evaluate bundle request) (b ∷ r ∷ []) code text = EvaluateDue (bundle_reading b) (request_reading r) code text
+Due (evaluate bundle request answers) (b ∷ r ∷ []) code text = EvaluateDue (bundle_reading b) (request_reading r) (given_reading None) code text
+Due (evaluate bundle request answers) (b ∷ r ∷ a ∷ []) code text = EvaluateDue (bundle_reading b) (request_reading r) (given_reading (Some a)) code text
 Due (capacity bundle) (b ∷ []) code text = CapacityDue (bundle_reading b) code text
+Due (keys bundle) (b ∷ []) code text = KeysDue (bundle_reading b) code text
 Due (review old new) (o ∷ n ∷ []) code text = ReviewDue (bundle_reading o) (bundle_reading n) code text
 Due command contents code text = ⊥

@@ -8,6 +8,6 @@ pub mod Due
 pub mod Ended
 pub mod Files
 pub mod Fronts
+pub mod KeysText
 pub mod ReviewText
-pub mod TextParts
 pub mod Texts

@@ -3,12 +3,13 @@ use Rattle.std.specs.Prelude.{ℕ, List, [], ◌++◌, codes, decimal}
 use Rattle.waf_model.specs.declared.read_fault.ReadFault.{ReadFault}
 use Rattle.waf_model.specs.declared.read_fault.ReadFault.TheVariants.{Json, Shape, Number, Name, SamePriority, Action, Nested, Missing, Base64, Address, Limit, Namespace, OneStatement, NotBuilt, Memory}
 use Rattle.wafreview.specs.declared.role.Role.{Role}
-use Rattle.wafreview.specs.declared.role.Role.TheVariants.{Bundle, Request, Old, New}
+use Rattle.wafreview.specs.declared.role.Role.TheVariants.{Bundle, Request, Answers, Old, New}
 
 -- a role's name
 abbrev pub role_name : Role → List ℕ
 role_name Bundle = codes "bundle"
 role_name Request = codes "request"
+role_name Answers = codes "answers"
 role_name Old = codes "old"
 role_name New = codes "new"
 

@@ -7,12 +7,25 @@ ghost use Rattle.wafreview.specs.CommandView.{command_view};
 /// A command with the names of its files.
 #[derive(Clone, Copy, Debug)]
 pub(crate) enum Command<'a> {
-    /// The outcome and the capacity of a bundle's web ACL on a request.
-    Evaluate { bundle: &'a str, request: &'a str },
+    /// The outcome and the capacity of a bundle's web ACL on a request, under the answers where a file of them is named.
+    Evaluate {
+        bundle: &'a str,
+        request: &'a str,
+        answers: Option<&'a str>,
+    },
     /// The capacity of a bundle's web ACL.
-    Capacity { bundle: &'a str },
+    Capacity {
+        bundle: &'a str,
+    },
+    /// The keys of the questions that a bundle leaves to answers.
+    Keys {
+        bundle: &'a str,
+    },
     /// Whether two revisions decide alike.
-    Review { old: &'a str, new: &'a str },
+    Review {
+        old: &'a str,
+        new: &'a str,
+    },
 }
 
 /// Whether the word is the name of a file: it is not empty and does not begin with `-`.
@@ -30,20 +43,29 @@ pub(crate) fn command_of(words: &[String]) -> Option<Command<'_>>
     ensures { option_map command_view result ≡ command_of_words (map string_bytes words.now) }
 {
     match words {
-        [word, file] => sized(word.as_str(), file.as_str()),
+        [word, file] => alone(word.as_str(), file.as_str()),
         [word, first, second] => named(word.as_str(), first.as_str(), second.as_str()),
+        [word, first, second, third] => answered(
+            word.as_str(),
+            first.as_str(),
+            second.as_str(),
+            third.as_str(),
+        ),
         _ => None,
     }
 }
 
 /// The command of that name on one file.
-fn sized<'a>(word: &str, file: &'a str) -> Option<Command<'a>>
+fn alone<'a>(word: &str, file: &'a str) -> Option<Command<'a>>
     ensures { option_map command_view result ≡ command_of_words (word.now ∷ file.now ∷ []) }
 {
-    if is_file_word(file) && word == "capacity" {
-        Some(Command::Capacity { bundle: file })
-    } else {
-        None
+    if !is_file_word(file) {
+        return None;
+    }
+    match word {
+        "capacity" => Some(Command::Capacity { bundle: file }),
+        "keys" => Some(Command::Keys { bundle: file }),
+        _ => None,
     }
 }
 
@@ -58,10 +80,28 @@ fn named<'a>(word: &str, first: &'a str, second: &'a str) -> Option<Command<'a>>
         "evaluate" => Some(Command::Evaluate {
             bundle: first,
             request: second,
+            answers: None,
         }),
         "review" => Some(Command::Review {
             old: first,
             new: second,
+        }),
+        _ => None,
+    }
+}
+
+/// The command of that name on three files.
+fn answered<'a>(word: &str, first: &'a str, second: &'a str, third: &'a str) -> Option<Command<'a>>
+    ensures { option_map command_view result ≡ command_of_words (word.now ∷ first.now ∷ second.now ∷ third.now ∷ []) }
+{
+    if !is_file_word(first) || !is_file_word(second) || !is_file_word(third) {
+        return None;
+    }
+    match word {
+        "evaluate" => Some(Command::Evaluate {
+            bundle: first,
+            request: second,
+            answers: Some(third),
         }),
         _ => None,
     }

@@ -2,9 +2,9 @@
 #![tactic(auto)]
 
 mod answer;
-mod answers_text;
 mod command;
 mod decimal;
+mod keys_text;
 mod named_files;
 mod refusal;
 mod report;

@@ -74,6 +74,8 @@ pub(crate) fn read_two<F: Files>(
 ) -> Result<TwoFiles, Ended>
     ensures bytes { IfOk result (λ two. AreRead (F.tells files.old) ((first.entry.role, first.entry.name.now) ∷ (second.entry.role, second.entry.name.now) ∷ []) (two.first.items ∷ two.second.items ∷ [])) }
     ensures ended { IfErr result (EndsAt (F.tells files.old) (F.sure files.old) (Rose (F.faults files.old) (F.faults files.new)) (Rose (F.long_reads files.old) (F.long_reads files.new)) ((first.entry.role, first.entry.name.now) ∷ (second.entry.role, second.entry.name.now) ∷ [])) }
+    ensures faults { F.faults files.old ≤ F.faults files.new }
+    ensures long_reads { F.long_reads files.old ≤ F.long_reads files.new }
 {
     let bytes = read_file(alloc, files, first)?;
     let more = read_file(alloc, files, second)?;
@@ -81,4 +83,34 @@ pub(crate) fn read_two<F: Files>(
         first: bytes,
         second: more,
     })
+}
+
+/// The bytes of three files, in the order in which they were read.
+#[derive(Drop)]
+pub(crate) struct ThreeFiles {
+    pub first: Vec<u8>,
+    pub second: Vec<u8>,
+    pub third: Vec<u8>,
+}
+
+/// The bytes of three files, each before the next.
+pub(crate) fn read_three<F: Files>(
+    alloc: Global,
+    files: &mut F,
+    first: NamedRole<'_>,
+    second: NamedRole<'_>,
+    third: NamedRole<'_>,
+) -> Result<ThreeFiles, Ended>
+    ensures bytes { IfOk result (λ three. AreRead (F.tells files.old) ((first.entry.role, first.entry.name.now) ∷ (second.entry.role, second.entry.name.now) ∷ (third.entry.role, third.entry.name.now) ∷ []) (three.first.items ∷ three.second.items ∷ three.third.items ∷ [])) }
+    ensures ended { IfErr result (EndsAt (F.tells files.old) (F.sure files.old) (Rose (F.faults files.old) (F.faults files.new)) (Rose (F.long_reads files.old) (F.long_reads files.new)) ((first.entry.role, first.entry.name.now) ∷ (second.entry.role, second.entry.name.now) ∷ (third.entry.role, third.entry.name.now) ∷ [])) }
+{
+    let bytes = read_file(alloc, files, first)?;
+    match read_two(alloc, files, second, third) {
+        Ok(rest) => Ok(ThreeFiles {
+            first: bytes,
+            second: rest.first,
+            third: rest.second,
+        }),
+        Err(ended) => Err(ended),
+    }
 }

@@ -1,17 +1,18 @@
 //! The text of a review's answer.
 
 ghost use Rattle.std.specs.Prelude.{◌≡◌, ◌++◌, codes, decimal, OnOk, IfOk};
+ghost use Rattle.waf_model.specs.AnswersText.{answers_text};
 ghost use Rattle.waf_model.specs.Printed.{decision_name, different_text};
 ghost use Rattle.wafreview.specs.ReviewText.{review_text};
 ghost use Rattle.wafreview.specs.DifferentParts.{old_text, decisions_text, up_to_request};
 
-use crate::answers_text::push_answers;
 use crate::decimal::push_decimal;
 use acl_eval::decision_word;
+use answer_book::write_answers;
 use parting_build::{Parting, Review};
 use request_parts::write_request;
 use std::alloc::Global;
-use waf_model::{Decision, Memory, Text};
+use waf_model::{Answers, Decision, Memory, Text};
 
 /// The lines of a review's answer, each of which ends in one newline byte. It fails only for want of memory.
 pub fn write_review(alloc: Global, review: &Review) -> Result<Text, Memory>
@@ -72,6 +73,14 @@ fn push_to_request(alloc: Global, text: &mut Text, parting: &Parting) -> Result<
     text.push(write_request(alloc, &parting.request)?.bytes())?;
     text.push(b"\n")?;
     Ok(())
+}
+
+/// Writes the answers as a JSON object.
+fn push_answers(alloc: Global, text: &mut Text, answers: &Answers) -> Result<(), Memory>
+    ensures { OnOk result (text.new ≡ text.old ++ answers_text answers.now) }
+{
+    let written = write_answers(alloc, answers)?;
+    text.push(written.bytes())
 }
 
 /// Writes all lines of DIFFERENT.

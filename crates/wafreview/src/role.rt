@@ -8,6 +8,7 @@ ghost use Rattle.wafreview.specs.Texts.{role_name};
 pub enum Role {
     Bundle,
     Request,
+    Answers,
     Old,
     New,
 }
@@ -19,6 +20,7 @@ pub(crate) fn role_word(role: Role) -> &'static str
     match role {
         Role::Bundle => "bundle",
         Role::Request => "request",
+        Role::Answers => "answers",
         Role::Old => "old",
         Role::New => "new",
     }

@@ -1,22 +1,22 @@
 //! A run of the program.
 
-ghost use Rattle.std.specs.Prelude.{◌≡◌, ◌≤◌, [], ◌∷◌, ℕ, List, map, Some, IfOk, IfErr, string_bytes};
+ghost use Rattle.std.specs.Prelude.{◌≡◌, ◌≤◌, [], ◌∷◌, ℕ, List, map, None, Some, IfOk, IfErr, option_map, string_bytes};
 ghost use Rattle.waf_base.specs.Counts.{Rose};
 ghost use Rattle.wafreview.specs.Answer.{HasCause};
 ghost use Rattle.wafreview.specs.Answered.{IsAnswered, Written};
 ghost use Rattle.wafreview.specs.AnswerOf.{IsDueOrMemory, ended_answer};
-ghost use Rattle.wafreview.specs.CommandLine.{command_of as command_of_words, capacity, evaluate, review};
+ghost use Rattle.wafreview.specs.CommandLine.{command_of as command_of_words, capacity, evaluate, keys, review};
 ghost use Rattle.set_json.specs.Bundles.{bundle_reading};
-ghost use Rattle.wafreview.specs.Due.{CapacityDue, EvaluateDue, ReviewDue};
+ghost use Rattle.wafreview.specs.Due.{CapacityDue, EvaluateDue, KeysDue, ReviewDue, given_reading};
 ghost use Rattle.request_parts.specs.RequestReading.{request_reading};
 ghost use Rattle.wafreview.specs.declared.answer.Answer.TheVariants as answers;
 ghost use Rattle.wafreview.specs.CommandView.{command_view};
 
 use crate::answer::Answer;
 use crate::command::{Command, command_of};
-use crate::named_files::{Ended, NamedRole, TwoFiles, read_one, read_two};
+use crate::named_files::{Ended, NamedRole, ThreeFiles, TwoFiles, read_one, read_three, read_two};
 use crate::report::Report;
-use crate::reports::{capacity_report, evaluation_report, review_report};
+use crate::reports::{capacity_report, evaluation_report, keys_report, review_report};
 use crate::role::Role;
 use crate::status::Status;
 use crate::writing::write_answer;
@@ -50,8 +50,13 @@ fn answer_of<F: Files>(alloc: Global, command: Command<'_>, files: &mut F) -> An
     ensures { HasCause (F.tells files.old) (F.sure files.old) (Rose (F.faults files.old) (F.faults files.new)) (Rose (F.long_reads files.old) (F.long_reads files.new)) (Some (command_view command.entry)) result }
 {
     match command {
-        Command::Evaluate { bundle, request } => evaluate_files(alloc, files, bundle, request),
+        Command::Evaluate {
+            bundle,
+            request,
+            answers,
+        } => evaluate_named(alloc, files, bundle, request, answers),
         Command::Capacity { bundle } => capacity_file(alloc, files, bundle),
+        Command::Keys { bundle } => keys_file(alloc, files, bundle),
         Command::Review { old, new } => review_files(alloc, files, old, new),
     }
 }
@@ -64,11 +69,26 @@ fn done(report: Report) -> Answer
     Answer::Done { code, text }
 }
 
-/// The work of `evaluate`.
+/// The work of `evaluate` without answers.
 fn evaluation_answer(alloc: Global, read: &TwoFiles) -> Answer
-    ensures { IsDueOrMemory (EvaluateDue (bundle_reading read.now.first.items) (request_reading read.now.second.items)) result }
+    ensures { IsDueOrMemory (EvaluateDue (bundle_reading read.now.first.items) (request_reading read.now.second.items) (given_reading None)) result }
 {
-    match evaluation_report(alloc, &read.first, &read.second) {
+    match evaluation_report(alloc, &read.first, &read.second, None) {
+        Ok(report) => done(report),
+        Err(Memory) => Answer::NoMemory,
+    }
+}
+
+/// The work of `evaluate` under the answers of a file.
+fn evaluation_under(alloc: Global, read: &ThreeFiles) -> Answer
+    ensures { IsDueOrMemory (EvaluateDue (bundle_reading read.now.first.items) (request_reading read.now.second.items) (given_reading (Some read.now.third.items))) result }
+{
+    match evaluation_report(
+        alloc,
+        &read.first,
+        &read.second,
+        Some(read.third.as_slice()),
+    ) {
         Ok(report) => done(report),
         Err(Memory) => Answer::NoMemory,
     }
@@ -79,6 +99,16 @@ fn capacity_answer(alloc: Global, bundle: &[u8]) -> Answer
     ensures { IsDueOrMemory (CapacityDue (bundle_reading bundle.now)) result }
 {
     match capacity_report(alloc, bundle) {
+        Ok(report) => done(report),
+        Err(Memory) => Answer::NoMemory,
+    }
+}
+
+/// The work of `keys`.
+fn keys_answer(alloc: Global, bundle: &[u8]) -> Answer
+    ensures { IsDueOrMemory (KeysDue (bundle_reading bundle.now)) result }
+{
+    match keys_report(alloc, bundle) {
         Ok(report) => done(report),
         Err(Memory) => Answer::NoMemory,
     }
@@ -106,8 +136,24 @@ fn answer_at(ended: Ended) -> Answer
 }
 
 /// The answer to `evaluate`.
+fn evaluate_named<F: Files>(
+    alloc: Global,
+    files: &mut F,
+    bundle: &str,
+    request: &str,
+    answers: Option<&str>,
+) -> Answer
+    ensures { HasCause (F.tells files.old) (F.sure files.old) (Rose (F.faults files.old) (F.faults files.new)) (Rose (F.long_reads files.old) (F.long_reads files.new)) (Some (evaluate bundle.now request.now (option_map (λ name. name.now) answers.entry))) result }
+{
+    match answers {
+        None => evaluate_files(alloc, files, bundle, request),
+        Some(answers) => evaluate_under(alloc, files, bundle, request, answers),
+    }
+}
+
+/// The answer to `evaluate` without answers.
 fn evaluate_files<F: Files>(alloc: Global, files: &mut F, bundle: &str, request: &str) -> Answer
-    ensures { HasCause (F.tells files.old) (F.sure files.old) (Rose (F.faults files.old) (F.faults files.new)) (Rose (F.long_reads files.old) (F.long_reads files.new)) (Some (evaluate bundle.now request.now)) result }
+    ensures { HasCause (F.tells files.old) (F.sure files.old) (Rose (F.faults files.old) (F.faults files.new)) (Rose (F.long_reads files.old) (F.long_reads files.new)) (Some (evaluate bundle.now request.now None)) result }
 {
     let bundle = NamedRole {
         role: Role::Bundle,
@@ -123,6 +169,34 @@ fn evaluate_files<F: Files>(alloc: Global, files: &mut F, bundle: &str, request:
     }
 }
 
+/// The answer to `evaluate` under the answers of a file.
+fn evaluate_under<F: Files>(
+    alloc: Global,
+    files: &mut F,
+    bundle: &str,
+    request: &str,
+    answers: &str,
+) -> Answer
+    ensures { HasCause (F.tells files.old) (F.sure files.old) (Rose (F.faults files.old) (F.faults files.new)) (Rose (F.long_reads files.old) (F.long_reads files.new)) (Some (evaluate bundle.now request.now (Some answers.now))) result }
+{
+    let bundle = NamedRole {
+        role: Role::Bundle,
+        name: bundle,
+    };
+    let request = NamedRole {
+        role: Role::Request,
+        name: request,
+    };
+    let answers = NamedRole {
+        role: Role::Answers,
+        name: answers,
+    };
+    match read_three(alloc, files, bundle, request, answers) {
+        Ok(read) => evaluation_under(alloc, &read),
+        Err(ended) => answer_at(ended),
+    }
+}
+
 /// The answer to `capacity`.
 fn capacity_file<F: Files>(alloc: Global, files: &mut F, bundle: &str) -> Answer
     ensures { HasCause (F.tells files.old) (F.sure files.old) (Rose (F.faults files.old) (F.faults files.new)) (Rose (F.long_reads files.old) (F.long_reads files.new)) (Some (capacity bundle.now)) result }
@@ -133,6 +207,20 @@ fn capacity_file<F: Files>(alloc: Global, files: &mut F, bundle: &str) -> Answer
     };
     match read_one(alloc, files, bundle) {
         Ok(read) => capacity_answer(alloc, &read),
+        Err(ended) => answer_at(ended),
+    }
+}
+
+/// The answer to `keys`.
+fn keys_file<F: Files>(alloc: Global, files: &mut F, bundle: &str) -> Answer
+    ensures { HasCause (F.tells files.old) (F.sure files.old) (Rose (F.faults files.old) (F.faults files.new)) (Rose (F.long_reads files.old) (F.long_reads files.new)) (Some (keys bundle.now)) result }
+{
+    let bundle = NamedRole {
+        role: Role::Bundle,
+        name: bundle,
+    };
+    match read_one(alloc, files, bundle) {
+        Ok(read) => keys_answer(alloc, &read),
         Err(ended) => answer_at(ended),
     }
 }

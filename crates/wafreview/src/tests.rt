@@ -1,4 +1,7 @@
+mod answering;
 mod bundles;
+mod evaluations;
+mod keys;
 mod printing;
 mod refusing;
 
@@ -55,9 +58,9 @@ fn request(alloc: Global, uri: &str) -> Result<String, Fail> {
     Ok(text)
 }
 
-fn files(alloc: Global, first: &[u8], second: &[u8]) -> Result<Items<NamedFile>, Fail> {
+fn files(alloc: Global, texts: &[(&str, &[u8])]) -> Result<Items<NamedFile>, Fail> {
     let mut files = Vec::new(alloc);
-    for (name, bytes) in [("one", first), ("two", second)] {
+    for (name, bytes) in texts {
         files.push(NamedFile {
             name: Text::of(alloc, name.as_bytes())?,
             bytes: Text::of(alloc, bytes)?,
@@ -86,8 +89,19 @@ fn printed(
     second: &str,
     failing: &[u64],
 ) -> Result<String, Fail> {
+    let texts = [("one", first.as_bytes()), ("two", second.as_bytes())];
+    printed_of(alloc, line, &texts, failing)
+}
+
+/// The text that the command prints on the named files, with its status in front; the reads of these numbers fail.
+fn printed_of(
+    alloc: Global,
+    line: &[&str],
+    texts: &[(&str, &[u8])],
+    failing: &[u64],
+) -> Result<String, Fail> {
     let mut held = MemFiles {
-        files: files(alloc, first.as_bytes(), second.as_bytes())?,
+        files: files(alloc, texts)?,
         failing: numbers(alloc, failing)?,
         calls: 0,
         faults: 0,
@@ -169,7 +183,7 @@ fn the_first_rule_that_matches_decides(rt: HostRuntime) -> Result<(), Fail> {
 fn the_first_fault_is_reported_alone(rt: HostRuntime) -> Result<(), Fail> {
     let alloc = rt.alloc();
     let cut = "{\"WebACL\":{\"Na";
-    let cases: [(&[&str], &str, &str, &[u64], &str); 12] = [
+    let cases: [(&[&str], &str, &str, &[u64], &str); 17] = [
         (
             &["evaluate", "one", "two"],
             NO_RULES,
@@ -183,6 +197,28 @@ fn the_first_fault_is_reported_alone(rt: HostRuntime) -> Result<(), Fail> {
             REQUEST,
             &[],
             "3 refused bundle E1\n",
+        ),
+        (
+            &["capacity", "none"],
+            NO_RULES,
+            REQUEST,
+            &[],
+            "6 read fault bundle\n",
+        ),
+        (&["keys", "one"], cut, REQUEST, &[], "3 refused bundle E1\n"),
+        (
+            &["keys", "none"],
+            NO_RULES,
+            REQUEST,
+            &[],
+            "6 read fault bundle\n",
+        ),
+        (
+            &["keys", "two"],
+            NO_RULES,
+            REQUEST,
+            &[],
+            "3 refused bundle E2 $.WebACL\n",
         ),
         (
             &["evaluate", "one", "two"],
@@ -234,6 +270,13 @@ fn the_first_fault_is_reported_alone(rt: HostRuntime) -> Result<(), Fail> {
             "6 read fault bundle\n",
         ),
         (
+            &["review", "none", "none"],
+            NO_RULES,
+            REQUEST,
+            &[],
+            "6 read fault old\n",
+        ),
+        (
             &["review", "one", "none"],
             cut,
             REQUEST,
@@ -267,18 +310,24 @@ fn other_words_are_usage(rt: HostRuntime) -> Result<(), Fail> {
     let alloc = rt.alloc();
     let usage =
         "2 usage: wafreview evaluate BUNDLE REQUEST [ANSWERS] | capacity BUNDLE | keys BUNDLE | review OLD NEW [--nodes N] | generate K\n";
-    let cases: [&[&str]; 12] = [
+    let cases: [&[&str]; 18] = [
         &[],
         &["evaluate"],
+        &["evaluate", "one"],
         &["capacity"],
         &["capacity", "-one"],
         &["capacity", "one", "two"],
+        &["keys"],
+        &["keys", ""],
+        &["keys", "one", "two"],
         &["review", "a"],
         &["generate", "0"],
         &["generate", "101"],
         &["evaluate", "-one", "two"],
         &["evaluate", "one", ""],
-        &["evaluate", "one", "two", "three"],
+        &["evaluate", "one", "two", "-three"],
+        &["evaluate", "one", "two", "three", "four"],
+        &["review", "one", "two", "three"],
         &["Evaluate", "one", "two"],
     ];
     for line in cases {
@@ -400,7 +449,10 @@ fn a_printed_request_gives_the_printed_decisions(rt: HostRuntime) -> Result<(), 
 fn a_failing_sink_keeps_a_front_of_the_text(rt: HostRuntime) -> Result<(), Fail> {
     let alloc = rt.alloc();
     let mut held = SureFiles {
-        files: files(alloc, NO_RULES.as_bytes(), REQUEST.as_bytes())?,
+        files: files(
+            alloc,
+            &[("one", NO_RULES.as_bytes()), ("two", REQUEST.as_bytes())],
+        )?,
         faults: 0,
         long: 0,
     };
@@ -417,13 +469,32 @@ fn a_file_past_the_greatest_length_is_too_long(rt: HostRuntime) -> Result<(), Fa
     let alloc = rt.alloc();
     let long = vec![in alloc; 32u8; 67_108_865]?;
     let mut held = SureFiles {
-        files: files(alloc, &long, REQUEST.as_bytes())?,
+        files: files(
+            alloc,
+            &[
+                ("long", long.as_slice()),
+                ("one", NO_RULES.as_bytes()),
+                ("two", REQUEST.as_bytes()),
+            ],
+        )?,
         faults: 0,
         long: 0,
     };
-    let line = words(alloc, &["evaluate", "one", "two"])?;
-    let mut out = MemSink::new(alloc, 4096, 4096, Items::new(alloc))?;
-    assert_eq!(rt; run(alloc, &line, &mut held, &mut out).code, 9);
-    assert_eq!(rt; out.taken.as_slice(), b"too long bundle\n".as_slice());
+    let cases: [(&[&str], &[u8]); 8] = [
+        (&["evaluate", "long", "two"], b"too long bundle\n"),
+        (&["evaluate", "one", "long", "long"], b"too long request\n"),
+        (&["evaluate", "one", "two", "long"], b"too long answers\n"),
+        (&["evaluate", "long", "none", "two"], b"too long bundle\n"),
+        (&["capacity", "long"], b"too long bundle\n"),
+        (&["keys", "long"], b"too long bundle\n"),
+        (&["review", "long", "two"], b"too long old\n"),
+        (&["review", "two", "long"], b"too long new\n"),
+    ];
+    for (line, wanted) in cases {
+        let mut out = MemSink::new(alloc, 4096, 4096, Items::new(alloc))?;
+        let status = run(alloc, &words(alloc, line)?, &mut held, &mut out);
+        assert_eq!(rt; status.code, 9);
+        assert_eq!(rt; out.taken.as_slice(), wanted);
+    }
     Ok(())
 }

@@ -23,6 +23,7 @@ fn unread_line(role: Role) -> &'static str
     match role {
         Role::Bundle => "read fault bundle\n",
         Role::Request => "read fault request\n",
+        Role::Answers => "read fault answers\n",
         Role::Old => "read fault old\n",
         Role::New => "read fault new\n",
     }
@@ -35,6 +36,7 @@ fn too_long_line(role: Role) -> &'static str
     match role {
         Role::Bundle => "too long bundle\n",
         Role::Request => "too long request\n",
+        Role::Answers => "too long answers\n",
         Role::Old => "too long old\n",
         Role::New => "too long new\n",
     }

@@ -1,9 +1,9 @@
 use Rattle.std.proofs.Common.{◌≡◌, ◌+◌, List, ◌∷◌, None, drop, option_map, subst}
 use Rattle.std.specs.List.{fold}
-use Rattle.acl_eval.specs.Unbuilt.{earlier}
-use Rattle.acl_eval.proofs.Joined.{front}
 use Rattle.waf_model.specs.declared.rule.TopRule.{TopRule}
+use Rattle.parting_build.specs.FirstInFile.{earlier}
 use Rattle.parting_build.specs.Plain.{placed, unplain_rule}
+use Rattle.parting_build.proofs.FirstInFile.{front}
 use Rattle.parting_build.proofs.plain.first_unplain.Goals as goal
 
 pub loop-rule-preserved : goal.loop-rule-preserved

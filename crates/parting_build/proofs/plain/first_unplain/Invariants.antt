@@ -1,6 +1,6 @@
 use Rattle.std.proofs.Common.{◌≡◌, None, drop, option_map}
 use Rattle.std.specs.List.{fold}
-use Rattle.acl_eval.specs.Unbuilt.{earlier}
+use Rattle.parting_build.specs.FirstInFile.{earlier}
 use Rattle.parting_build.specs.Plain.{placed, unplain_rule}
 use Rattle.parting_build.proofs.plain.first_unplain.Given as goal
 

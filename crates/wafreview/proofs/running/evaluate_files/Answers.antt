@@ -1,4 +1,4 @@
-use Rattle.std.proofs.Common.{[], ◌∷◌}
+use Rattle.std.proofs.Common.{[], ◌∷◌, None}
 use Rattle.waf_base.specs.Counts.{Rose}
 use Rattle.wafreview.specs.CommandLine.{evaluate}
 use Rattle.wafreview.proofs.DueAnswers.{due_cause}
@@ -10,4 +10,4 @@ returns-in-Ok g c =
     let read = c.in-Ok.read in
     due_cause (files.tells c.args.files.now) (files.sure c.args.files.now) (Rose (files.faults c.args.files.now) (files.faults c.read_two.new.files))
     (Rose (files.long_reads c.args.files.now) (files.long_reads c.read_two.new.files))
-    (evaluate c.args.bundle.now c.args.request.now) (read.first.items ∷ read.second.items ∷ []) _ c.in-Ok.ensures.bytes c.evaluation_answer.ensures
+    (evaluate c.args.bundle.now c.args.request.now None) (read.first.items ∷ read.second.items ∷ []) _ c.in-Ok.ensures.bytes c.evaluation_answer.ensures

@@ -1,0 +1,8 @@
+use Rattle.std.proofs.Common.{◌≡◌, ◌++◌, map, drop}
+use Rattle.acl_eval.specs.Trying.{with_labels}
+use Rattle.acl_eval.proofs.trying.add_qualified.Given as goal
+
+abbrev pub invariant-loop-label : goal.invariant-loop-label
+invariant-loop-label l =
+    with_labels l.labels (map (λ label. l.namespace ++ label) (drop l.label-index l.added))
+    ≡ with_labels l.initial.labels (map (λ label. l.namespace ++ label) l.added)

@@ -1,0 +1,3 @@
+pub mod Inserted
+pub mod Members
+pub mod Tokens

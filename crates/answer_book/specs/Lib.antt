@@ -1,0 +1,3 @@
+pub mod AnswersReading
+pub mod Keys
+pub mod TextParts

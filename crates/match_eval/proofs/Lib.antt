@@ -1,0 +1,10 @@
+pub mod Among
+pub mod Conditions
+pub mod Edges
+pub mod Fields
+pub mod Forwarding
+pub mod Joined
+pub mod Places
+pub mod Searching
+pub mod SomeOf
+pub mod TextEnds

@@ -1,0 +1,14 @@
+use Rattle.std.proofs.Common.{rules, tests}
+use Rattle.std.proofs.lemmas.Iterator.{cases_from_any, YieldsList-from_slice}
+use Rattle.ip_cover.specs.Cover.{IsCovered}
+use Rattle.match_eval.specs.ForwardedPieces.{IsPieceCounted}
+use Rattle.match_eval.proofs.SomeOf.{decided, decided_mapped}
+use Rattle.match_eval.proofs.forwarded_value.some_is_covered.Goals as goal
+
+pub returns : goal.returns
+returns c =
+    let pieces = c.args.pieces.now in
+    let counts = IsPieceCounted (IsCovered c.args.cover.now) c.args.fallback in
+    decided_mapped c.any.result (λ piece. piece.now) counts pieces
+    (decided c.any.result (λ piece. counts piece.now) pieces
+    (cases_from_any _ _ _ (λ piece. counts piece.now) (λ piece. counts piece.now → ⊥) c.any.ensures.ran (YieldsList-from_slice pieces cc) (λ x q k. search (rules, tests)) (λ x q k. search (rules, tests))))
