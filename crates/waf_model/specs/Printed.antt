@@ -12,10 +12,10 @@ use Rattle.waf_model.specs.declared.outcome.Ender.{Ender}
 use Rattle.waf_model.specs.declared.outcome.Ender.TheVariants.{Default, Rule, Inner}
 use Rattle.waf_model.specs.declared.outcome.Outcome.{Outcome}
 
--- a decision's name; a Block's code isn't printed yet
+-- a decision's name; of a Block, its code in decimal too
 abbrev pub decision_name : Decision → List ℕ
 decision_name Allow = codes "ALLOW"
-decision_name (Block code) = codes "BLOCK"
+decision_name (Block code) = codes "BLOCK " ++ decimal code
 decision_name Captcha = codes "CAPTCHA"
 decision_name Challenge = codes "CHALLENGE"
 

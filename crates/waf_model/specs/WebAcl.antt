@@ -1,5 +1,5 @@
 -- What every web ACL and every rule group that is read keeps to.
-use Rattle.std.specs.Prelude.{◌≡◌, ℕ, ◌<◌, ◌++◌, List, length, map, codes, All, AllPairs, IsPermutation, IsTrue}
+use Rattle.std.specs.Prelude.{◌≡◌, ℕ, ◌<◌, ◌≤◌, ◌++◌, List, length, map, codes, All, AllPairs, IsPermutation, IsTrue}
 use Rattle.std.specs.List.{range_with_len}
 use Rattle.waf_model.specs.SoundStatement.{is_sound_statement, is_sound_top}
 use Rattle.waf_model.specs.declared.group.Group.{Group}
@@ -23,12 +23,17 @@ abbrev pub IsSameRule : TopRule → Top → Type 0
 IsSameRule top (Plain rule) = (rule.name ≡ top.name) × (rule.priority ≡ top.priority) × (rule.place ≡ top.place)
 IsSameRule top body = Unit {0}
 
+-- the most bytes of a body that a web ACL may inspect (API field `DefaultSizeInspectionLimit`)
+abbrev pub greatest_body_limit : ℕ
+greatest_body_limit = 65536
+
 -- what holds of every web ACL that is read
 pub record IsSound (acl : Acl) : Type 0 where
   pub namespace : IsNamespace acl.namespace
   pub order : IsInOrder (map (λ top. top.priority) acl.rules) (map (λ top. top.place) acl.rules)
   pub plain : All (λ top. IsSameRule top top.body) acl.rules
   pub statements : All (λ top. IsTrue (is_sound_top top.body)) acl.rules
+  pub limit : acl.body_limit ≤ greatest_body_limit
 
 -- what holds of every rule group that is read
 pub record IsSoundGroup (group : Group) : Type 0 where
