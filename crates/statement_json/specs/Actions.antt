@@ -9,17 +9,13 @@ use Rattle.waf_model.specs.declared.action.Action.{Action}
 use Rattle.waf_model.specs.declared.action.Action.TheVariants as actions
 use Rattle.waf_model.specs.declared.read_fault.ReadFault.{ReadFault}
 use Rattle.waf_model.specs.declared.read_fault.ReadFault.TheVariants as faults
+use Rattle.statement_json.specs.Blocks.{block_code}
 
--- the code that every Block gets, since custom responses are unread yet: what a Block without one answers (AWS WAF
--- Developer Guide, "Rule actions")
-abbrev pub forbidden : ℕ
-forbidden = 403
-
--- the action that exactly one member names
+-- the action that exactly one member names, Block with its code
 unfoldable pub action_of : Data → List ℕ → Result Action ReadFault
 action_of d path = if named_count (codes "Allow" ∷ codes "Block" ∷ codes "Count" ∷ codes "Captcha" ∷ codes "Challenge" ∷ []) d == 1
     then (if is_there (codes "Allow") d then Ok actions.Allow
-    else (if is_there (codes "Block") d then Ok (actions.Block forbidden)
+    else (if is_there (codes "Block") d then (block_code d path >>= λ code. Ok (actions.Block code))
     else (if is_there (codes "Count") d then Ok actions.Count
     else (if is_there (codes "Captcha") d then Ok actions.Captcha else Ok actions.Challenge))))
     else Err (faults.Action path)

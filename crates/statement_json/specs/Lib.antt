@@ -1,4 +1,5 @@
 pub mod Actions
+pub mod Blocks
 pub mod FieldNames
 pub mod Fields
 pub mod Groups

@@ -6,16 +6,14 @@ ghost use Rattle.std.specs.Prelude.{◌≡◌, option_map};
 ghost use Rattle.waf_model.specs.Gives.{Gives};
 ghost use Rattle.waf_model.specs.declared.read_fault.ReadFault.TheVariants as read_faults;
 
+use crate::block::block_code;
 use json_view::{copy_of, is_there, member_path, named_count, optional};
 use serde_json::Value;
 use std::alloc::Global;
 use waf_model::{Action, ReadFault, Text};
 
-// The code of a Block that names none.
-const FORBIDDEN: u32 = 403;
-
-/// The action in the member of that name: Shape at the path where the value is no object, and Action at the member's
-/// path where it doesn't name exactly one action (API type `RuleAction`).
+/// The action in the member of that name: Shape at the path where the value is no object, Action at the member's path
+/// where it doesn't name exactly one action, and else the fault of the code of a Block (API type `RuleAction`).
 pub fn action(alloc: Global, name: &str, v: &Value, path: &Text) -> Result<Action, ReadFault>
     ensures { Gives read_faults.Memory (λ action. action) result (action_at name.now (view v.now) path.now) }
 {
@@ -34,7 +32,7 @@ fn needed_action(alloc: Global, found: Option<&Value>, path: &Text) -> Result<Ac
     }
 }
 
-// The action that exactly one member names.
+// The action that exactly one member names, Block with its code.
 #[tactic(auto, unfolding(crate::specs::Actions::action_of))]
 fn action_of(alloc: Global, v: &Value, path: &Text) -> Result<Action, ReadFault>
     ensures { Gives read_faults.Memory (λ action. action) result (action_in (view v.now) path.now) }
@@ -45,7 +43,9 @@ fn action_of(alloc: Global, v: &Value, path: &Text) -> Result<Action, ReadFault>
     if is_there(v, "Allow") {
         Ok(Action::Allow)
     } else if is_there(v, "Block") {
-        Ok(Action::Block { code: FORBIDDEN })
+        Ok(Action::Block {
+            code: block_code(alloc, v, path)?,
+        })
     } else if is_there(v, "Count") {
         Ok(Action::Count)
     } else if is_there(v, "Captcha") {

@@ -2,6 +2,7 @@
 #![tactic(auto)]
 
 mod actions;
+mod block;
 mod detectors;
 mod encoding;
 mod field;
@@ -26,6 +27,7 @@ mod top;
 mod transforms;
 
 pub use actions::action;
+pub use block::block_code;
 pub use encoding::Encoding;
 pub use matching::{arn, regex};
 pub use top::{TopStatement, rule_statement, top_statement};

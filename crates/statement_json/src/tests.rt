@@ -1,4 +1,5 @@
 mod lines;
+mod response_codes;
 mod sets;
 mod table;
 
