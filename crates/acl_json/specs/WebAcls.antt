@@ -2,7 +2,7 @@
 use Rattle.std.specs.Prelude.{ℕ, List, [], ◌∷◌, codes, ◌==◌, if◌then◌else◌, Option, Some, None, unwrap_or, Result, Ok, Err}
 use Rattle.serde_json.specs.Data.{Data}
 use Rattle.json_view.specs.Words.{is_there, name_at, named_count, optional_text_at, text_member_at, whole_member_at}
-use Rattle.statement_json.specs.Actions.{forbidden}
+use Rattle.statement_json.specs.Blocks.{block_code}
 use Rattle.statement_json.specs.declared.encoding.Encoding.{Encoding}
 use Rattle.statement_json.specs.declared.encoding.Encoding.TheVariants as encodings
 use Rattle.waf_model.specs.Gives.{◌>>=◌}
@@ -14,6 +14,7 @@ use Rattle.waf_model.specs.declared.read_fault.ReadFault.{ReadFault}
 use Rattle.waf_model.specs.declared.read_fault.ReadFault.TheVariants as faults
 use Rattle.waf_model.specs.declared.sets.RegexSet.{RegexSet}
 use Rattle.waf_model.specs.declared.web_acl.Acl.{Acl}
+use Rattle.acl_json.specs.BodyLimit.{body_limit_at}
 use Rattle.acl_json.specs.Immunity.{immunity_at}
 use Rattle.acl_json.specs.Namespaces.{namespace_at}
 use Rattle.acl_json.specs.Rules.{group_rule_at, rules_at, top_rule_at}
@@ -25,18 +26,14 @@ use Rattle.acl_json.specs.declared.heads.GroupHead.{GroupHead}
 abbrev pub default_immunity : ℕ
 default_immunity = 300
 
--- the body limit of every web ACL, in bytes, whatever resource it protects (this project's own)
-abbrev pub default_body_limit : ℕ
-default_body_limit = 8192
-
 -- the greatest capacity of a rule group (this project's own)
 abbrev pub greatest_capacity : ℕ
 greatest_capacity = 1000000
 
--- Allow or Block, whichever exactly one member names
+-- Allow or Block, whichever exactly one member names, Block with its code
 unfoldable pub default_of : Data → List ℕ → Result Decision ReadFault
 default_of d path = if named_count (codes "Allow" ∷ codes "Block" ∷ []) d == 1
-    then (if is_there (codes "Allow") d then Ok decisions.Allow else Ok (decisions.Block forbidden))
+    then (if is_there (codes "Allow") d then Ok decisions.Allow else (block_code d path >>= λ code. Ok (decisions.Block code)))
     else Err (faults.Action path)
 
 abbrev pub needed_default : Option Data → List ℕ → Result Decision ReadFault
@@ -56,14 +53,15 @@ acl_head_at d path = do
   default ← default_at d path
   captcha ← immunity_at (codes "CaptchaConfig") d path
   challenge ← immunity_at (codes "ChallengeConfig") d path
-  Ok (record { name = name; namespace = namespace; default = default; captcha = captcha; challenge = challenge })
+  body_limit ← body_limit_at d path
+  Ok (record { name = name; namespace = namespace; default = default; captcha = captcha; challenge = challenge; body_limit = body_limit })
 
 -- a web ACL, among the pattern sets of the bundle, after so many statements; and how many statements were read then
 unfoldable pub acl_of : List RegexSet → Encoding → Data → List ℕ → ℕ → Result (Acl × ℕ) ReadFault
 acl_of sets encoding d path seen = do
   head ← acl_head_at d path
   rules ← rules_at (top_rule_at sets encoding) (λ rule. rule.priority) d path seen
-  Ok (record { name = head.name; namespace = head.namespace; default = head.default; captcha = unwrap_or head.captcha default_immunity; challenge = unwrap_or head.challenge default_immunity; body_limit = default_body_limit; rules = rules.0 }, rules.1)
+  Ok (record { name = head.name; namespace = head.namespace; default = head.default; captcha = unwrap_or head.captcha default_immunity; challenge = unwrap_or head.challenge default_immunity; body_limit = head.body_limit; rules = rules.0 }, rules.1)
 
 -- the namespace of a rule group
 unfoldable pub group_namespace_at : Data → List ℕ → List ℕ → List ℕ → Result (List ℕ) ReadFault

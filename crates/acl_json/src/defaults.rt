@@ -9,11 +9,9 @@ ghost use Rattle.waf_model.specs.declared.read_fault.ReadFault.TheVariants as re
 
 use json_view::{copy_of, is_there, member_path, named_count, optional};
 use serde_json::Value;
+use statement_json::block_code;
 use std::alloc::Global;
 use waf_model::{Decision, ReadFault, Text};
-
-// The code of a Block that names none.
-const FORBIDDEN: u32 = 403;
 
 // The default action of a web ACL.
 #[tactic(auto, unfolding(crate::specs::WebAcls::default_at))]
@@ -34,7 +32,7 @@ fn needed_default(alloc: Global, found: Option<&Value>, path: &Text) -> Result<D
     }
 }
 
-// Allow or Block, whichever exactly one member names.
+// Allow or Block, whichever exactly one member names, Block with its code.
 #[tactic(auto, unfolding(crate::specs::WebAcls::default_of))]
 fn default_of(alloc: Global, v: &Value, path: &Text) -> Result<Decision, ReadFault>
     ensures { Gives read_faults.Memory (λ decision. decision) result (default_in (view v.now) path.now) }
@@ -45,7 +43,9 @@ fn default_of(alloc: Global, v: &Value, path: &Text) -> Result<Decision, ReadFau
     if is_there(v, "Allow") {
         Ok(Decision::Allow)
     } else {
-        Ok(Decision::Block { code: FORBIDDEN })
+        Ok(Decision::Block {
+            code: block_code(alloc, v, path)?,
+        })
     }
 }
 

@@ -2,11 +2,12 @@
 
 ghost use Rattle.acl_json.specs.WebAcls.{acl_head_at, group_head_at, group_namespace_at};
 ghost use Rattle.serde_json.specs.View.{view};
-ghost use Rattle.std.specs.Prelude.{◌≡◌, IfOk};
+ghost use Rattle.std.specs.Prelude.{◌≡◌, ◌≤◌, IfOk};
 ghost use Rattle.waf_model.specs.Gives.{Gives};
-ghost use Rattle.waf_model.specs.WebAcl.{IsNamespace};
+ghost use Rattle.waf_model.specs.WebAcl.{IsNamespace, greatest_body_limit};
 ghost use Rattle.waf_model.specs.declared.read_fault.ReadFault.TheVariants as read_faults;
 
+use crate::body_limit::body_limit;
 use crate::defaults::default_action;
 use crate::immunity::immunity;
 use crate::namespaces::namespace;
@@ -26,6 +27,7 @@ pub(crate) struct AclHead {
     pub(crate) default: Decision,
     pub(crate) captcha: Option<u32>,
     pub(crate) challenge: Option<u32>,
+    pub(crate) body_limit: u32,
 }
 
 /// A rule group before its rules.
@@ -41,6 +43,7 @@ pub(crate) struct GroupHead {
 #[tactic(auto, unfolding(crate::specs::WebAcls::acl_head_at))]
 pub(crate) fn acl_head(alloc: Global, v: &Value, path: &Text) -> Result<AclHead, ReadFault>
     ensures sound { IfOk result (λ head. IsNamespace head.namespace) }
+    ensures within { IfOk result (λ head. head.body_limit ≤ greatest_body_limit) }
     ensures reading { Gives read_faults.Memory (λ head. head) result (acl_head_at (view v.now) path.now) }
 {
     let name = Text::of(alloc, name_member(alloc, v, path)?.as_bytes())?;
@@ -49,12 +52,14 @@ pub(crate) fn acl_head(alloc: Global, v: &Value, path: &Text) -> Result<AclHead,
     let default = default_action(alloc, v, path)?;
     let captcha = immunity(alloc, "CaptchaConfig", v, path)?;
     let challenge = immunity(alloc, "ChallengeConfig", v, path)?;
+    let body_limit = body_limit(alloc, v, path)?;
     Ok(AclHead {
         name,
         namespace,
         default,
         captcha,
         challenge,
+        body_limit,
     })
 }
 

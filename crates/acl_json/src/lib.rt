@@ -1,6 +1,7 @@
 //! Reads web ACLs and rule groups.
 #![tactic(auto)]
 
+mod body_limit;
 mod defaults;
 mod heads;
 mod immunity;

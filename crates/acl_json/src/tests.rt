@@ -1,4 +1,6 @@
+mod body_limits;
 mod lines;
+mod response_codes;
 mod table;
 
 use crate::{Encoding, read_acl};
@@ -326,13 +328,14 @@ fn the_first_fault_in_reading_order_is_told(rt: HostRuntime) -> Result<(), Fail>
     let alloc = rt.alloc();
     let form = "{'Rules':1,#}";
     let rows = "
-'ChallengeConfig':1,'CaptchaConfig':1,'DefaultAction':1,'LabelNamespace':1,'ARN':1,'Name':1 => E2 $.WebACL.Name
-'ChallengeConfig':1,'CaptchaConfig':1,'DefaultAction':1,'LabelNamespace':1,'ARN':1,'Name':'n' => E2 $.WebACL.ARN
-'ChallengeConfig':1,'CaptchaConfig':1,'DefaultAction':1,'LabelNamespace':1,'ARN':'a','Name':'n' => E2 $.WebACL.LabelNamespace
-'ChallengeConfig':1,'CaptchaConfig':1,'DefaultAction':1,'ARN':'a','Name':'n' => E12 $.WebACL
-'ChallengeConfig':1,'CaptchaConfig':1,'DefaultAction':1,'LabelNamespace':'awswaf:','ARN':'a','Name':'n' => E6 $.WebACL.DefaultAction
-'ChallengeConfig':1,'CaptchaConfig':1,@,'ARN':'a','Name':'n' => E2 $.WebACL.CaptchaConfig
-'ChallengeConfig':1,@,'ARN':'a','Name':'n' => E2 $.WebACL.ChallengeConfig
+'AssociationConfig':1,'ChallengeConfig':1,'CaptchaConfig':1,'DefaultAction':1,'LabelNamespace':1,'ARN':1,'Name':1 => E2 $.WebACL.Name
+'AssociationConfig':1,'ChallengeConfig':1,'CaptchaConfig':1,'DefaultAction':1,'LabelNamespace':1,'ARN':1,'Name':'n' => E2 $.WebACL.ARN
+'AssociationConfig':1,'ChallengeConfig':1,'CaptchaConfig':1,'DefaultAction':1,'LabelNamespace':1,'ARN':'a','Name':'n' => E2 $.WebACL.LabelNamespace
+'AssociationConfig':1,'ChallengeConfig':1,'CaptchaConfig':1,'DefaultAction':1,'ARN':'a','Name':'n' => E12 $.WebACL
+'AssociationConfig':1,'ChallengeConfig':1,'CaptchaConfig':1,'DefaultAction':1,'LabelNamespace':'awswaf:','ARN':'a','Name':'n' => E6 $.WebACL.DefaultAction
+'AssociationConfig':1,'ChallengeConfig':1,'CaptchaConfig':1,@,'ARN':'a','Name':'n' => E2 $.WebACL.CaptchaConfig
+'AssociationConfig':1,'ChallengeConfig':1,@,'ARN':'a','Name':'n' => E2 $.WebACL.ChallengeConfig
+'AssociationConfig':1,@,'ARN':'a','Name':'n' => E2 $.WebACL.AssociationConfig
 @,'ARN':'a','Name':'n' => E2 $.WebACL.Rules";
     check(&rt, alloc, WEB_ACL, 0, form, rows)?;
     let form = "{'Name':'n',@,'Rules':[{'Name':'a','Priority':7,~,!},{#}]}";

@@ -21,9 +21,6 @@ use waf_model::{Acl, Group, ReadFault, RegexSet, Text};
 // The immunity time, in seconds, where a web ACL sets none.
 const DEFAULT_IMMUNITY: u32 = 300;
 
-// The body limit, in bytes, where a web ACL sets none.
-const DEFAULT_BODY_LIMIT: u32 = 8192;
-
 /// The web ACL of a bundle, its rules by ascending priority, before what it refers to is looked up. It fails where
 /// memory was wanting, with `Json` where the bytes are no JSON text, and else with the first fault of `WebACL` (API type
 /// `WebACL`).
@@ -97,7 +94,7 @@ pub fn acl_among(
         default: head.default,
         captcha: head.captcha.unwrap_or(DEFAULT_IMMUNITY),
         challenge: head.challenge.unwrap_or(DEFAULT_IMMUNITY),
-        body_limit: DEFAULT_BODY_LIMIT,
+        body_limit: head.body_limit,
         rules,
     })
 }
