@@ -1,43 +1,41 @@
--- One step of a matcher keeps what it knows, and answers how matches end at the new place.
+-- One step of a marked expression keeps what its marks tell, and answers how matches end at the new place.
 use Rattle.std.proofs.Common.{◌≡◌, ℕ, zero, suc, ◌+◌, ◌≤◌, ◌⊎◌, inl, inr, List, Bool, true, false, ◌&&◌, ◌||◌, Some, None, slice_get, refl, sym, subst, arith}
 use Rattle.std.proofs.lemmas.Bool.{cases_lt}
 use Rattle.waf_model.specs.Pattern.{Expression, repeat, one_of, Matches, has_byte}
 use Rattle.waf_model.specs.declared.pattern.ByteSet.{ByteSet}
-use Rattle.pattern_match.specs.declared.matcher.Ends.{Ends}
 use Rattle.pattern_match.specs.declared.place.Place.{Place}
-use Rattle.pattern_match.specs.declared.matcher.Matcher.{Matcher, Nothing, Empty, OneOf, Start, End, Final, Both', Either', Star'}
+use Rattle.pattern_match.specs.Marks.{Ends, Marked, never, blank, byte_of, at_start, at_end, at_final, in_turn, one_or_other, in_rounds, unmarked}
 use Rattle.pattern_match.specs.Places.{IsPlace}
-use Rattle.pattern_match.specs.Shapes.{shape}
 use Rattle.pattern_match.specs.Steps.{enters, ends_after, stepped}
 use Rattle.pattern_match.proofs.Rounds.{times_up, times_last}
 use Rattle.pattern_match.proofs.Unrolling.{forward}
 use Rattle.pattern_match.proofs.Tracking.{Reach, Before, Rounds, Now, Tells, ByteIs, Tracks, and_parts, or_parts, and_both, or_left, or_right, enters_tells, again_tells, one_more}
 
 -- a step changes no part of the pattern
-pub shape-stepped : (m : Matcher) (e : Bool) (b : ℕ) (place : Place) → shape (stepped m e b place) ≡ shape m
-shape-stepped Nothing e b place = refl
-shape-stepped Empty e b place = refl
-shape-stepped (OneOf set) e b place = refl
-shape-stepped Start e b place = refl
-shape-stepped End e b place = refl
-shape-stepped Final e b place = refl
-shape-stepped (Both' p a ends q c) e b place =
-    let one : shape (stepped a e b place) ≡ shape a = shape-stepped a e b place in
-    let two : shape (stepped c (enters e ends) b place) ≡ shape c = shape-stepped c (enters e ends) b place in
+pub unmarked-stepped : (m : Marked) (e : Bool) (b : ℕ) (place : Place) → unmarked (stepped m e b place) ≡ unmarked m
+unmarked-stepped never e b place = refl
+unmarked-stepped blank e b place = refl
+unmarked-stepped (byte_of set) e b place = refl
+unmarked-stepped at_start e b place = refl
+unmarked-stepped at_end e b place = refl
+unmarked-stepped at_final e b place = refl
+unmarked-stepped (in_turn a ends c) e b place =
+    let one : unmarked (stepped a e b place) ≡ unmarked a = unmarked-stepped a e b place in
+    let two : unmarked (stepped c (enters e ends) b place) ≡ unmarked c = unmarked-stepped c (enters e ends) b place in
     cc
-shape-stepped (Either' p a q c) e b place =
-    let one : shape (stepped a e b place) ≡ shape a = shape-stepped a e b place in
-    let two : shape (stepped c e b place) ≡ shape c = shape-stepped c e b place in
+unmarked-stepped (one_or_other a c) e b place =
+    let one : unmarked (stepped a e b place) ≡ unmarked a = unmarked-stepped a e b place in
+    let two : unmarked (stepped c e b place) ≡ unmarked c = unmarked-stepped c e b place in
     cc
-shape-stepped (Star' p a through) e b place =
-    let one : shape (stepped a (e || through) b place) ≡ shape a = shape-stepped a (e || through) b place in
+unmarked-stepped (in_rounds a through) e b place =
+    let one : unmarked (stepped a (e || through) b place) ≡ unmarked a = unmarked-stepped a (e || through) b place in
     cc
 
 -- what a step gives
-pub record Steps (m m' : Matcher) (ends : Ends) (w : List ℕ) (E : ℕ → Type 0) (t : ℕ) : Type 0 where
+pub record Steps (m m' : Marked) (ends : Ends) (w : List ℕ) (E : ℕ → Type 0) (t : ℕ) : Type 0 where
   pub tracks : Tracks m' w E (suc t)
-  pub through : Tells ends.through (Before E (Matches w (shape m)) t)
-  pub nothing : Tells ends.empty (Matches w (shape m) t t)
+  pub through : Tells ends.through (Before E (Matches w (unmarked m)) t)
+  pub nothing : Tells ends.empty (Matches w (unmarked m) t t)
 
 -- where no match is longer than nothing
 none_through : (E : ℕ → Type 0) (R : ℕ → ℕ → Type 0) → ((i j : ℕ) → R i j → j ≡ i) → (t : ℕ) → Tells false (Before E R t)
@@ -146,74 +144,74 @@ star_through E w a t x ended = record {
 }
 
 -- one step
-pub step : (m : Matcher) (w : List ℕ) (E : ℕ → Type 0) (t : ℕ) (e : Bool) (b : ℕ) (place : Place) → ByteIs w t b → IsPlace w t place →
+pub step : (m : Marked) (w : List ℕ) (E : ℕ → Type 0) (t : ℕ) (e : Bool) (b : ℕ) (place : Place) → ByteIs w t b → IsPlace w t place →
     Tracks m w E t → Tells e (Now E t) → Steps m (stepped m e b place) (ends_after m e b place) w E t
-step Nothing w E t e b place here at tracks entered = record {
+step never w E t e b place here at tracks entered = record {
   tracks = tt;
   through = record { means = λ h. absurd (cc); shown = λ h. let (s, below, from, one) = h in absurd one };
   nothing = record { means = λ h. absurd (cc); shown = λ h. absurd h };
 }
-step Empty w E t e b place here at tracks entered = record {
+step blank w E t e b place here at tracks entered = record {
   tracks = tt;
   through = none_through E (λ i j. j ≡ i) (λ i j h. h) t;
   nothing = record { means = λ h. refl; shown = λ h. refl };
 }
-step (OneOf set) w E t e b place here at tracks entered = record {
+step (byte_of set) w E t e b place here at tracks entered = record {
   tracks = tt;
   through = byte_through set w E t e b here entered;
   nothing = byte_nothing set w t;
 }
-step Start w E t e b place here at tracks entered = record {
+step at_start w E t e b place here at tracks entered = record {
   tracks = tt;
   through = none_through E (λ i j. (i ≡ 0) × (j ≡ i)) (λ i j h. h.1) t;
   nothing = record { means = λ h. (at.start.0 h, refl); shown = λ h. at.start.1 h.0 };
 }
-step End w E t e b place here at tracks entered = record {
+step at_end w E t e b place here at tracks entered = record {
   tracks = tt;
-  through = none_through E (Matches w (shape End)) (λ i j h. h.1) t;
+  through = none_through E (Matches w (unmarked at_end)) (λ i j h. h.1) t;
   nothing = record { means = λ h. (at.end.0 h, refl); shown = λ h. at.end.1 h.0 };
 }
-step Final w E t e b place here at tracks entered = record {
+step at_final w E t e b place here at tracks entered = record {
   tracks = tt;
-  through = none_through E (Matches w (shape Final)) (λ i j h. h.1) t;
+  through = none_through E (Matches w (unmarked at_final)) (λ i j h. h.1) t;
   nothing = record { means = λ h. (at.last.0 h, refl); shown = λ h. at.last.1 h.0 };
 }
-step (Both' p a ends q c) w E t e b place here at (first, second, through, nothing) entered =
-    let enter : Tells (enters e ends) (Now (Reach E (Matches w (shape a))) t) =
-    enters_tells E (Matches w (shape a)) (forward w (shape a)) t e ends entered through nothing in
+step (in_turn a ends c) w E t e b place here at (first, second, through, nothing) entered =
+    let enter : Tells (enters e ends) (Now (Reach E (Matches w (unmarked a))) t) =
+    enters_tells E (Matches w (unmarked a)) (forward w (unmarked a)) t e ends entered through nothing in
     let one = step a w E t e b place here at first entered in
-    let two = step c w (Reach E (Matches w (shape a))) t (enters e ends) b place here at second enter in
-    let kept : shape a ≡ shape (stepped a e b place) = sym (shape-stepped a e b place) in
+    let two = step c w (Reach E (Matches w (unmarked a))) t (enters e ends) b place here at second enter in
+    let kept : unmarked a ≡ unmarked (stepped a e b place) = sym (unmarked-stepped a e b place) in
     record {
       tracks = subst (λ (x : Expression). Tracks (stepped a e b place) w E (suc t)
           × Tracks (stepped c (enters e ends) b place) w (Reach E (Matches w x)) (suc t)
           × Tells (ends_after a e b place).through (Before E (Matches w x) t)
           × Tells (ends_after a e b place).empty (Matches w x t t)) kept
           (one.tracks, two.tracks, one.through, one.nothing);
-      through = both_through E (Matches w (shape a)) (Matches w (shape c)) (forward w (shape a)) (forward w (shape c)) t
+      through = both_through E (Matches w (unmarked a)) (Matches w (unmarked c)) (forward w (unmarked a)) (forward w (unmarked c)) t
           (ends_after a e b place) (ends_after c (enters e ends) b place) one.through two.through two.nothing;
-      nothing = both_nothing (Matches w (shape a)) (Matches w (shape c)) (forward w (shape a)) (forward w (shape c)) t
+      nothing = both_nothing (Matches w (unmarked a)) (Matches w (unmarked c)) (forward w (unmarked a)) (forward w (unmarked c)) t
           (ends_after a e b place).empty (ends_after c (enters e ends) b place).empty one.nothing two.nothing;
     }
-step (Either' p a q c) w E t e b place here at (first, second) entered =
+step (one_or_other a c) w E t e b place here at (first, second) entered =
     let one = step a w E t e b place here at first entered in
     let two = step c w E t e b place here at second entered in
     record {
       tracks = (one.tracks, two.tracks);
-      through = either_through E (Matches w (shape a)) (Matches w (shape c)) t
+      through = either_through E (Matches w (unmarked a)) (Matches w (unmarked c)) t
           (ends_after a e b place).through (ends_after c e b place).through one.through two.through;
-      nothing = either_nothing (Matches w (shape a) t t) (Matches w (shape c) t t)
+      nothing = either_nothing (Matches w (unmarked a) t t) (Matches w (unmarked c) t t)
           (ends_after a e b place).empty (ends_after c e b place).empty one.nothing two.nothing;
     }
-step (Star' p a through) w E t e b place here at (inner, ended) entered =
-    let enter : Tells (e || through) (Now (Reach E (Rounds (Matches w (shape a)))) t) =
-    again_tells E (Matches w (shape a)) (forward w (shape a)) t e through entered ended in
-    let one = step a w (Reach E (Rounds (Matches w (shape a)))) t (e || through) b place here at inner enter in
-    let kept : shape a ≡ shape (stepped a (e || through) b place) = sym (shape-stepped a (e || through) b place) in
+step (in_rounds a through) w E t e b place here at (inner, ended) entered =
+    let enter : Tells (e || through) (Now (Reach E (Rounds (Matches w (unmarked a)))) t) =
+    again_tells E (Matches w (unmarked a)) (forward w (unmarked a)) t e through entered ended in
+    let one = step a w (Reach E (Rounds (Matches w (unmarked a)))) t (e || through) b place here at inner enter in
+    let kept : unmarked a ≡ unmarked (stepped a (e || through) b place) = sym (unmarked-stepped a (e || through) b place) in
     record {
       tracks = subst (λ (x : Expression). Tracks (stepped a (e || through) b place) w (Reach E (Rounds (Matches w x))) (suc t)
           × Tells (ends_after a (e || through) b place).through (Before (Reach E (Rounds (Matches w x))) (Matches w x) t)) kept
           (one.tracks, one.through);
-      through = star_through E w (shape a) t (ends_after a (e || through) b place).through one.through;
+      through = star_through E w (unmarked a) t (ends_after a (e || through) b place).through one.through;
       nothing = record { means = λ h. (0, omega arith, tt, refl); shown = λ h. refl };
     }

@@ -1,10 +1,8 @@
--- What a matcher knows after so many steps: at the place one below their number.
+-- What a marked expression tells after so many steps: at the place one below their number.
 use Rattle.std.proofs.Common.{◌≡◌, ℕ, zero, suc, ◌+◌, ◌<◌, ◌≤◌, ◌⊎◌, inl, inr, List, Bool, true, false, ◌&&◌, ◌||◌, Some, slice_get, refl, subst, arith}
 use Rattle.std.proofs.lemmas.Bool.{cases_lt}
 use Rattle.waf_model.specs.Pattern.{Matches, Times}
-use Rattle.pattern_match.specs.declared.matcher.Ends.{Ends}
-use Rattle.pattern_match.specs.declared.matcher.Matcher.{Matcher, Nothing, Empty, OneOf, Start, End, Final, Both', Either', Star'}
-use Rattle.pattern_match.specs.Shapes.{shape, IsFresh}
+use Rattle.pattern_match.specs.Marks.{Ends, Marked, in_turn, one_or_other, in_rounds, unmarked}
 use Rattle.pattern_match.specs.Steps.{enters}
 use Rattle.pattern_match.proofs.Rounds.{times_up, times_add, times_last}
 
@@ -37,15 +35,15 @@ abbrev pub ByteIs : List ℕ → ℕ → ℕ → Type 0
 ByteIs w zero b = Unit {0}
 ByteIs w (suc p) b = slice_get w p ≡ Some b
 
--- the matcher was entered at the places E below the present one, and keeps how its parts end there
-abbrev pub Tracks : Matcher → List ℕ → (ℕ → Type 0) → ℕ → Type 0
-Tracks (Both' p a ends q b) w E t =
-    Tracks a w E t × Tracks b w (Reach E (Matches w (shape a))) t
-    × Tells ends.through (Now (Before E (Matches w (shape a))) t) × EmptyTells ends.empty (Matches w (shape a)) t
-Tracks (Either' p a q b) w E t = Tracks a w E t × Tracks b w E t
-Tracks (Star' p a through) w E t =
-    Tracks a w (Reach E (Rounds (Matches w (shape a)))) t
-    × Tells through (Now (Before (Reach E (Rounds (Matches w (shape a)))) (Matches w (shape a))) t)
+-- the expression was entered at the places E below the present one, and its marks tell how its parts end there
+abbrev pub Tracks : Marked → List ℕ → (ℕ → Type 0) → ℕ → Type 0
+Tracks (in_turn a ends b) w E t =
+    Tracks a w E t × Tracks b w (Reach E (Matches w (unmarked a))) t
+    × Tells ends.through (Now (Before E (Matches w (unmarked a))) t) × EmptyTells ends.empty (Matches w (unmarked a)) t
+Tracks (one_or_other a b) w E t = Tracks a w E t × Tracks b w E t
+Tracks (in_rounds a through) w E t =
+    Tracks a w (Reach E (Rounds (Matches w (unmarked a)))) t
+    × Tells through (Now (Before (Reach E (Rounds (Matches w (unmarked a)))) (Matches w (unmarked a))) t)
 Tracks other w E t = Unit {0}
 
 pub and_parts : (a b : Bool) → (a && b) ≡ true → (a ≡ true) × (b ≡ true)
@@ -67,24 +65,6 @@ or_left false b x = absurd (cc)
 pub or_right : (a b : Bool) → b ≡ true → (a || b) ≡ true
 or_right true b x = refl
 or_right false b x = x
-
--- a fresh matcher that isn't entered before the first place
-pub tracks_fresh : (m : Matcher) (w : List ℕ) (E : ℕ → Type 0) → IsFresh m → Tracks m w E 0
-tracks_fresh Nothing w E fresh = tt
-tracks_fresh Empty w E fresh = tt
-tracks_fresh (OneOf set) w E fresh = tt
-tracks_fresh Start w E fresh = tt
-tracks_fresh End w E fresh = tt
-tracks_fresh Final w E fresh = tt
-tracks_fresh (Both' p a ends q b) w E (first, none, second) = (
-  tracks_fresh a w E first,
-  tracks_fresh b w (Reach E (Matches w (shape a))) second,
-  record { means = λ h. cc; shown = λ h. absurd h },
-  tt,
-)
-tracks_fresh (Either' p a q b) w E (first, second) = (tracks_fresh a w E first, tracks_fresh b w E second)
-tracks_fresh (Star' p a through) w E (inner, none) =
-    (tracks_fresh a w (Reach E (Rounds (Matches w (shape a)))) inner, record { means = λ h. cc; shown = λ h. absurd h })
 
 -- the second is entered where the first ended
 pub enters_tells : (E : ℕ → Type 0) (R : ℕ → ℕ → Type 0) → ((i j : ℕ) → R i j → i ≤ j) → (t : ℕ) (e : Bool) (ends : Ends) →

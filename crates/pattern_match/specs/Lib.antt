@@ -1,4 +1,8 @@
 pub mod Places
-pub mod Searches
+pub mod Openings
+pub mod Traces
 pub mod Shapes
+pub mod Marks
 pub mod Steps
+pub mod Moves
+pub mod Searches

@@ -1,7 +1,8 @@
 -- The expression that a matcher stands for.
-use Rattle.std.specs.Prelude.{◌≡◌, ℕ, zero, suc, ◌-◌, false, Option, Some, None, nat_lt, if◌then◌else◌}
+use Rattle.std.specs.Prelude.{◌≡◌, ℕ, zero, suc, ◌-◌, Option, Some, None, nat_lt, if◌then◌else◌}
 use Rattle.waf_model.specs.Pattern.{Expression, nothing, empty, one_of, start, end, final, both, either, repeat}
 use Rattle.pattern_match.specs.declared.matcher.Matcher.{Matcher, Nothing, Empty, OneOf, Start, End, Final, Both', Either', Star'}
+use Rattle.pattern_match.specs.Openings.{IsSound}
 
 abbrev pub shape : Matcher → Expression
 shape Nothing = nothing
@@ -10,21 +11,14 @@ shape (OneOf set) = one_of set
 shape Start = start
 shape End = end
 shape Final = final
-shape (Both' p a ends q b) = both (shape a) (shape b)
-shape (Either' p a q b) = either (shape a) (shape b)
-shape (Star' p a through) = repeat (shape a) 0 None
+shape (Both' p a q b opening) = both (shape a) (shape b)
+shape (Either' p a q b opening) = either (shape a) (shape b)
+shape (Star' p a first) = repeat (shape a) 0 None
 
--- no place in it is reached
-abbrev pub IsFresh : Matcher → Type 0
-IsFresh (Both' p a ends q b) = IsFresh a × (ends.through ≡ false) × IsFresh b
-IsFresh (Either' p a q b) = IsFresh a × IsFresh b
-IsFresh (Star' p a through) = IsFresh a × (through ≡ false)
-IsFresh other = Unit {0}
-
--- the matcher stands for the expression, and no place in it is reached
+-- the matcher stands for the expression, and keeps rightly how matches of its parts begin
 pub record IsMatcherOf (e : Expression) (m : Matcher) : Type 0 where
   pub shape_is : shape m ≡ e
-  pub fresh : IsFresh m
+  pub sound : IsSound m
 
 -- n copies of a, and then b
 abbrev pub copies : ℕ → Expression → Expression → Expression

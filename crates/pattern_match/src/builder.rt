@@ -1,10 +1,11 @@
-//! The matcher of a pattern, with no place reached.
+//! The matcher of a pattern.
 
 ghost use Rattle.std.specs.Prelude.{IfOk, map, None};
 ghost use Rattle.waf_model.specs.Pattern.{Expression, expression, all_of, any_of, both, either, repeat};
 ghost use Rattle.pattern_match.specs.Shapes.{IsMatcherOf, copies, up_to, repeated, unrolled};
 
-use crate::matcher::{Ends, Matcher};
+use crate::matcher::Matcher;
+use crate::opening::Opening;
 use std::alloc::Global;
 use waf_model::{Memory, Pattern};
 
@@ -12,25 +13,24 @@ use waf_model::{Memory, Pattern};
 fn join(alloc: Global, first: Matcher, second: Matcher) -> Result<Matcher, Memory>
     ensures { IfOk result (λ m. (a : Expression) → (b : Expression) → IsMatcherOf a first → IsMatcherOf b second → IsMatcherOf (both a b) m) }
 {
-    let ends = Ends {
-        through: false,
-        empty: false,
-    };
-    Ok(Matcher::Both(Box::new(alloc, first)?, ends, Box::new(alloc, second)?))
+    let opening = Opening::of_both(&first, &second);
+    Ok(Matcher::Both(Box::new(alloc, first)?, Box::new(alloc, second)?, opening))
 }
 
 /// One or the other.
 fn fork(alloc: Global, first: Matcher, second: Matcher) -> Result<Matcher, Memory>
     ensures { IfOk result (λ m. (a : Expression) → (b : Expression) → IsMatcherOf a first → IsMatcherOf b second → IsMatcherOf (either a b) m) }
 {
-    Ok(Matcher::Either(Box::new(alloc, first)?, Box::new(alloc, second)?))
+    let opening = Opening::of_either(&first, &second);
+    Ok(Matcher::Either(Box::new(alloc, first)?, Box::new(alloc, second)?, opening))
 }
 
 /// Any number of times.
 fn star(alloc: Global, inner: Matcher) -> Result<Matcher, Memory>
     ensures { IfOk result (λ m. (a : Expression) → IsMatcherOf a inner → IsMatcherOf (repeat a 0 None) m) }
 {
-    Ok(Matcher::Star(Box::new(alloc, inner)?, false))
+    let first = inner.first();
+    Ok(Matcher::Star(Box::new(alloc, inner)?, first))
 }
 
 /// The matcher of the pattern.

@@ -7,14 +7,14 @@ ghost use Rattle.pattern_match.specs.Searches.{IsSearchOf};
 
 use crate::builder::matcher_of;
 use crate::matcher::Matcher;
-use crate::place::Place;
+use crate::place::{Place, Step};
+use crate::trace::Trace;
 use std::alloc::Global;
 use waf_model::{Memory, Pattern};
 
-/// A pattern prepared for searching in any number of texts, one after another.
+/// A pattern prepared for searching in any number of texts.
 #[derive(Drop)]
 pub struct Search {
-    /// It keeps where the text before was left; each search clears it.
     pub(crate) matcher: Matcher,
 }
 
@@ -30,26 +30,38 @@ impl Search {
         })
     }
 
-    /// Whether the pattern is found in the bytes: whether it matches them from some place to some place. It takes no
-    /// memory, and time in proportion to the bytes and to the places of the pattern with its repetitions written out.
-    pub fn found_in(&mut self, text: &[u8]) -> bool
-        ensures found { (p : Pattern) → IsSearchOf p self.old → IsTrue result ↔ Found p text.now }
-        ensures kept { (p : Pattern) → IsSearchOf p self.old → IsSearchOf p self.new }
+    /// Whether the pattern is found in the bytes: whether it matches them from some place to some place. It takes time
+    /// in proportion to the bytes and to the places of the pattern with its repetitions written out, and mostly less: a
+    /// byte that no match begins with costs the same for each pattern where none is under way. It fails only for want of
+    /// memory.
+    pub fn found_in(&self, alloc: Global, text: &[u8]) -> Result<bool, Memory>
+        ensures { IfOk result (λ found. (p : Pattern) → IsSearchOf p self.now → IsTrue found ↔ Found p text.now) }
     {
-        self.matcher.clear();
-        if self.matcher.advance(false, 0, Place::of(text, 0)).any() {
-            return true;
+        let mut trace = Trace::Between(false);
+        let mut before = Place::of(text, 0);
+        let start = Step {
+            before,
+            byte: 0,
+            place: before,
+        };
+        let through = self.matcher.advance(alloc, &mut trace, false, &start)?;
+        if self.matcher.ends_at(through, true, start.place) {
+            return Ok(true);
         }
         for (at, byte) in text.iter().enumerate() {
-            if self
-                .matcher
-                .advance(true, *byte, Place::of(text, at + 1))
-                .any()
-            {
-                return true;
+            let place = Place::of(text, at + 1);
+            let step = Step {
+                before,
+                byte: *byte,
+                place,
+            };
+            let through = self.matcher.advance(alloc, &mut trace, true, &step)?;
+            if self.matcher.ends_at(through, true, place) {
+                return Ok(true);
             }
+            before = place;
         }
-        false
+        Ok(false)
     }
 }
 
@@ -58,6 +70,6 @@ impl Search {
 pub fn hits(alloc: Global, p: &Pattern, w: &[u8]) -> Result<bool, Memory>
     ensures { IfOk result (λ found. IsTrue found ↔ Found p.now w.now) }
 {
-    let mut search = Search::of(alloc, p)?;
-    Ok(search.found_in(w))
+    let search = Search::of(alloc, p)?;
+    search.found_in(alloc, w)
 }

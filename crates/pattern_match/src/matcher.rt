@@ -1,32 +1,18 @@
-//! The places of a pattern, and how one byte of the text moves the set of those that are reached.
+//! The places of a pattern.
 
-ghost use Rattle.std.specs.Prelude.{◌≡◌, ◌||◌};
+ghost use Rattle.std.specs.Prelude.{◌≡◌, ℕ, false};
 ghost use Rattle.waf_model.specs.Pattern.{has_byte};
-ghost use Rattle.pattern_match.specs.Shapes.{IsFresh, shape};
-ghost use Rattle.pattern_match.specs.Steps.{stepped, ends_after};
+ghost use Rattle.pattern_match.specs.Openings.{IsSound, empty_at, may_begin};
+ghost use Rattle.pattern_match.specs.Places.{has_place};
+ghost use Rattle.pattern_match.specs.declared.place.Place.{Place};
 
+use crate::byte_sets::{has, no_byte};
+use crate::opening::Opening;
 use crate::place::Place;
+use crate::place_set::PlaceSet;
 use waf_model::ByteSet;
 
-/// How matches of an expression end at a place.
-#[derive(Clone, Copy)]
-pub(crate) struct Ends {
-    /// One that was entered at an earlier place ends here.
-    pub(crate) through: bool,
-    /// One that is entered here ends here.
-    pub(crate) empty: bool,
-}
-
-impl Ends {
-    /// Some match ends.
-    pub(crate) fn any(self) -> bool
-        ensures { result ≡ (self.through || self.empty) }
-    {
-        self.through || self.empty
-    }
-}
-
-/// An expression with the ends that its parts reached at the place before.
+/// An expression. One that has parts keeps how its matches may begin, so that the question costs the same at each.
 #[derive(Drop)]
 pub(crate) enum Matcher {
     Nothing,
@@ -35,105 +21,61 @@ pub(crate) enum Matcher {
     Start,
     End,
     Final,
-    /// One after another, with the ends of the first.
-    Both(Box<Matcher>, Ends, Box<Matcher>),
-    Either(Box<Matcher>, Box<Matcher>),
-    /// Any number of times; true where one time that was entered at an earlier place ended.
-    Star(Box<Matcher>, bool),
-}
-
-/// Whether the byte is in the set.
-fn has(set: &ByteSet, byte: u8) -> bool
-    ensures { result ≡ has_byte set.now byte }
-{
-    if byte < 128 {
-        (set.low >> byte) & 1 == 1
-    } else {
-        (set.high >> (byte - 128)) & 1 == 1
-    }
+    /// One after another.
+    Both(Box<Matcher>, Box<Matcher>, Opening),
+    Either(Box<Matcher>, Box<Matcher>, Opening),
+    /// Any number of times, with the bytes that one time can begin with.
+    Star(Box<Matcher>, ByteSet),
 }
 
 impl Matcher {
-    /// Goes back to before the first place: of an earlier text nothing stays.
-    pub(crate) fn clear(&mut self)
-        ensures fresh { IsFresh self.new }
-        ensures kept { shape self.new ≡ shape self.old }
+    /// The places where it matches the empty text.
+    pub(crate) fn empty(&self) -> PlaceSet
+        ensures { IsSound self.now → (place : Place) → has_place result place ≡ empty_at self.now place }
     {
         match self {
-            Matcher::Both(first, ends, second) => {
-                first.clear();
-                ends.through = false;
-                second.clear();
-            }
-            Matcher::Either(first, second) => {
-                first.clear();
-                second.clear();
-            }
-            Matcher::Star(inner, through) => {
-                inner.clear();
-                *through = false;
-            }
-            _ => {}
+            Matcher::Nothing => PlaceSet::none(),
+            Matcher::Empty => PlaceSet::all(),
+            Matcher::OneOf(_) => PlaceSet::none(),
+            Matcher::Start => PlaceSet::at_start(),
+            Matcher::End => PlaceSet::at_end(),
+            Matcher::Final => PlaceSet::at_last(),
+            Matcher::Both(_, _, opening) => opening.empty,
+            Matcher::Either(_, _, opening) => opening.empty,
+            Matcher::Star(_, _) => PlaceSet::all(),
         }
     }
 
-    /// Moves on to the next place, over the byte: the matcher was entered at the place before or not. It answers how
-    /// matches end at the new place.
-    pub(crate) fn advance(&mut self, entered: bool, byte: u8, place: Place) -> Ends
-        ensures moved { self.new ≡ stepped self.old entered byte place }
-        ensures ends { result ≡ ends_after self.old entered byte place }
+    /// A set that has each byte that a match of one byte or more can begin with.
+    pub(crate) fn first(&self) -> ByteSet
+        ensures { IsSound self.now → (before : Place) → (byte : ℕ) → has_byte result byte ≡ false → may_begin self.now before byte ≡ false }
     {
         match self {
-            Matcher::Nothing => Ends {
-                through: false,
-                empty: false,
-            },
-            Matcher::Empty => Ends {
-                through: false,
-                empty: true,
-            },
-            Matcher::OneOf(set) => Ends {
-                through: entered && has(set, byte),
-                empty: false,
-            },
-            Matcher::Start => Ends {
-                through: false,
-                empty: place.start,
-            },
-            Matcher::End => Ends {
-                through: false,
-                empty: place.end,
-            },
-            Matcher::Final => Ends {
-                through: false,
-                empty: place.last,
-            },
-            Matcher::Both(first, ends, second) => {
-                let enters = ends.through || entered && ends.empty;
-                let front = first.advance(entered, byte, place);
-                let back = second.advance(enters, byte, place);
-                *ends = front;
-                Ends {
-                    through: back.through || front.through && back.empty,
-                    empty: front.empty && back.empty,
-                }
-            }
-            Matcher::Either(first, second) => {
-                let front = first.advance(entered, byte, place);
-                let back = second.advance(entered, byte, place);
-                Ends {
-                    through: front.through || back.through,
-                    empty: front.empty || back.empty,
-                }
-            }
-            Matcher::Star(inner, through) => {
-                let ends = inner.advance(entered || *through, byte, place);
-                *through = ends.through;
-                Ends {
-                    through: ends.through,
-                    empty: true,
-                }
-            }
+            Matcher::OneOf(set) => *set,
+            Matcher::Both(_, _, opening) => opening.first,
+            Matcher::Either(_, _, opening) => opening.first,
+            Matcher::Star(_, first) => *first,
+            _ => no_byte(),
+        }
+    }
+
+    /// Whether it matches the empty text at the place.
+    pub(crate) fn empty_at(&self, place: Place) -> bool
+        ensures { IsSound self.now → result ≡ empty_at self.now place }
+    {
+        self.empty().has(place)
+    }
+
+    /// Whether a match of one byte or more may begin with the byte. If not, none does.
+    pub(crate) fn may_begin(&self, byte: u8) -> bool
+        ensures { IsSound self.now → result ≡ false → (before : Place) → may_begin self.now before byte ≡ false }
+    {
+        match self {
+            Matcher::OneOf(set) => has(set, byte),
+            Matcher::Both(_, _, opening) => has(&opening.first, byte),
+            Matcher::Either(_, _, opening) => has(&opening.first, byte),
+            Matcher::Star(_, first) => has(first, byte),
+            _ => false,
         }
     }
 }

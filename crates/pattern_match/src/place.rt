@@ -29,3 +29,14 @@ impl Place {
         }
     }
 }
+
+/// A step from one place of the text to the next.
+#[derive(Clone, Copy)]
+pub(crate) struct Step {
+    /// The place that it leaves.
+    pub(crate) before: Place,
+    /// The byte that it goes over.
+    pub(crate) byte: u8,
+    /// The place that it comes to.
+    pub(crate) place: Place,
+}

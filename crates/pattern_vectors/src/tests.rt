@@ -368,9 +368,13 @@ fn one_search_goes_through_many_texts(rt: HostRuntime) -> Result<(), Fail> {
         let Some(read) = read_pattern(alloc, pattern)? else {
             panic!(rt; "{pattern:?} is outside");
         };
-        let mut search = Search::of(alloc, &read)?;
+        let search = Search::of(alloc, &read)?;
         for (text, wanted) in texts.iter() {
-            assert_eq!(rt; search.found_in(text), *wanted, "{pattern:?} in {text:?}");
+            assert_eq!(rt;
+                search.found_in(alloc, text)?,
+                *wanted,
+                "{pattern:?} in {text:?}"
+            );
         }
     }
     Ok(())

@@ -40,4 +40,4 @@ copied-returns t c =
 
 pub optional-loop-preserved : goal.optional-loop-preserved
 optional-loop-preserved t c =
-    rw add-one (c.in_ok-matcher.ensures _ _ (record { shape_is = refl; fresh = tt }) (c.in_ok-join.ensures _ _ c.in_ok-copy.ensures c.loop.invariant))
+    rw add-one (c.in_ok-matcher.ensures _ _ (record { shape_is = refl; sound = tt }) (c.in_ok-join.ensures _ _ c.in_ok-copy.ensures c.loop.invariant))
