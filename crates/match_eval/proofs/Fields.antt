@@ -1,13 +1,8 @@
 -- Where the test of a field holds, by whether it is oversized and how that is handled.
-use Rattle.std.proofs.Common.{◌≡◌, ◌↔◌, ℕ, List, Bool, true, false, Result, IfOk, IsTrue, refl, sym, subst}
-use Rattle.match_eval.specs.Meeting.{TestHolds}
+use Rattle.std.proofs.Common.{◌≡◌, ◌↔◌, Bool, true, false, Result, IfOk, IsTrue, refl, sym, subst}
 use Rattle.waf_model.specs.Holds.{FieldHolds, OversizedHolds}
-use Rattle.waf_model.specs.Passes.{Test}
-use Rattle.waf_model.specs.declared.field.Field.{Field}
 use Rattle.waf_model.specs.declared.field.Oversize.{Oversize}
 use Rattle.waf_model.specs.declared.field.Oversize.TheVariants as oversizes
-use Rattle.waf_model.specs.declared.request.Request.{Request}
-use Rattle.waf_model.specs.declared.transform.Transform.{Transform}
 
 is_false : (a b : Bool) → IsTrue a ↔ IsTrue b → a ≡ false → b ≡ false
 is_false a true same none = absurd (let h = same.1 (refl) in cc)
@@ -25,10 +20,3 @@ pub inspected_so_far : {E : Type 0} (result : Result Bool E) (over : Bool) (over
 inspected_so_far result over oversize P larger handled held =
     subst (λ (b : Bool). IfOk result (λ holds. IsTrue holds ↔ FieldHolds b oversize P)) (sym larger)
     (subst (λ (o : Oversize). IfOk result (λ holds. IsTrue holds ↔ OversizedHolds o P)) (sym handled) held)
-
--- an answer for one test is an answer for another that is the same
-pub same_test : {E : Type 0} (result : Result Bool E) (part whole : Test) (field : Field) (transforms : List Transform) (request : Request) (body_limit : ℕ)
-    → part ≡ whole → IfOk result (λ holds. IsTrue holds ↔ TestHolds part field transforms request body_limit)
-    → IfOk result (λ holds. IsTrue holds ↔ TestHolds whole field transforms request body_limit)
-same_test result part whole field transforms request body_limit =
-    subst (λ (test : Test). IfOk result (λ holds. IsTrue holds ↔ TestHolds test field transforms request body_limit))

@@ -1,10 +1,9 @@
 -- Some piece that is looked at counts just where the forwarded header makes the statement hold.
 use Rattle.std.proofs.Common.{◌≡◌, ℕ, ◌-◌, Bool, List, length, map, take, drop, Option, Some, None, inl, inr, refl, sym, ap, ◌∙◌, subst}
 use Rattle.std.proofs.lemmas.List.{drop-map, length-map, take-map, take_rest}
-use Rattle.std.proofs.lemmas.Result.{IfOk-weaker}
 use Rattle.request_parts.specs.PieceViews.{texts}
 use Rattle.std.specs.Borrow.{Bor}
-use Rattle.std.specs.Prelude.{◌⊎◌, ◌↔◌, Any, IfOk, IsTrue, Result}
+use Rattle.std.specs.Prelude.{◌⊎◌, ◌↔◌, Any, IsTrue}
 use Rattle.waf_model.specs.AddressRange.{IsInSome}
 use Rattle.waf_model.specs.AddressText.{address_of}
 use Rattle.waf_model.specs.ForwardedAddress.{ForwardedHolds, IsPieceIn, last_of, looked_at, trimmed}
@@ -62,12 +61,11 @@ forwarded_is ranges forwarded value =
     )
 
 -- where the texts are those that are looked at, whether some of them counts is whether the header makes the statement hold
-pub result_is : {E : Type 0} (ranges : List Cidr) (forwarded : Forwarded) (value : List ℕ) (tried : List (List ℕ)) (result : Result Bool E)
+pub result_is : (ranges : List Cidr) (forwarded : Forwarded) (value : List ℕ) (tried : List (List ℕ)) (result : Bool)
     → tried ≡ looked_at forwarded.position (cut 44 value)
-    → IfOk result (λ some. IsTrue some ↔ Any (IsPieceCounted (IsInSome ranges) forwarded.fallback) tried)
-    → IfOk result (λ holds. IsTrue holds ↔ ForwardedHolds ranges forwarded (Some value))
-result_is ranges forwarded value tried result same =
-    IfOk-weaker result _ _ λ holds some.
+    → IsTrue result ↔ Any (IsPieceCounted (IsInSome ranges) forwarded.fallback) tried
+    → IsTrue result ↔ ForwardedHolds ranges forwarded (Some value)
+result_is ranges forwarded value tried result same some =
     let both = forwarded_is ranges forwarded value in
     let counts = IsPieceCounted (IsInSome ranges) forwarded.fallback in (
       λ e. both.0 (subst (Any counts) same (some.0 e)),

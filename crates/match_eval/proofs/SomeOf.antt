@@ -1,5 +1,5 @@
 -- Some element of a list has a fact just where a search for one finds it.
-use Rattle.std.proofs.Common.{◌≡◌, ℕ, ◌<◌, ◌≤◌, Bool, true, false, List, [], ◌∷◌, length, get_or, map, MatchBool, refl, arith, sym, ap, ◌∙◌, subst}
+use Rattle.std.proofs.Common.{ℕ, ◌<◌, Bool, true, false, List, [], ◌∷◌, length, get_or, map, MatchBool, refl, arith, sym, ap, ◌∙◌, subst}
 use Rattle.std.proofs.lemmas.Bool.{false≢true}
 use Rattle.std.specs.List.{HoldsAt, AllWithin}
 use Rattle.std.specs.Prelude.{◌↔◌, Any, IsTrue}
@@ -28,18 +28,6 @@ some_mapped f P xs = (
   λ some. (some.0, f some.1, subst (λ (n : ℕ). some.0 < n) (sym (length-map xs f)) some.2, get_or-map f xs some.0 some.1 ∙ ap f some.3, some.4),
   λ some. some_found (λ x. P (f x)) xs (found_before f P xs some),
 )
-
--- a test of the only element of a list decides the fact of some element
-pub decided_only : {X : Type 0} (r : Bool) (P : X → Type 0) (xs : List X) (d : X) → 1 ≤ length xs → length xs < 2 → IsTrue r ↔ P (get_or xs 0 d) → IsTrue r ↔ Any P xs
-decided_only r P xs d some one same = (
-  λ e. some_found P xs (0, some_within, λ x. subst P (get_or_default xs 0 d x some_within) (same.0 e)),
-  λ h.
-      let first : h.0 ≡ 0 = omega (arith, one, h.2) in
-      same.1 (subst P (sym h.3 ∙ ap (λ k. get_or xs k h.1) first ∙ get_or_default xs 0 h.1 d some_within) h.4),
-)
-  where
-    some_within : 0 < length xs
-    some_within = omega (arith, some)
 
 -- a search of a list that decides a fact of some element decides it of the list that was changed
 pub decided_mapped : {X Y : Type 0} (r : Bool) (f : X → Y) (P : Y → Type 0) (xs : List X) → IsTrue r ↔ Any (λ x. P (f x)) xs → IsTrue r ↔ Any P (map f xs)

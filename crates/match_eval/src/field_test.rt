@@ -16,13 +16,13 @@ use waf_model::{Field, Items, Memory, Oversize, Request, Text, Transform};
 /// only for want of memory.
 pub(crate) fn field_holds(
     alloc: Global,
-    asked: Asked<'_>,
+    asked: &Asked<'_>,
     field: &Field,
     transforms: &[Transform],
     request: &Request,
     body_limit: u32,
 ) -> Result<bool, Memory>
-    ensures { IfOk result (λ holds. IsTrue holds ↔ TestHolds (test_of asked.entry) field.now transforms.now request.now body_limit) }
+    ensures { IfOk result (λ holds. IsTrue holds ↔ TestHolds (test_of asked.now) field.now transforms.now request.now body_limit) }
 {
     if oversized(request, field, body_limit) {
         match oversize_of(field) {
@@ -52,13 +52,13 @@ fn oversize_of(field: &Field) -> Oversize
 /// Whether some text that the field shows passes the test after the transformations. It fails only for want of memory.
 fn some_shown_passes(
     alloc: Global,
-    asked: Asked<'_>,
+    asked: &Asked<'_>,
     field: &Field,
     transforms: &[Transform],
     request: &Request,
     body_limit: u32,
 ) -> Result<bool, Memory>
-    ensures { IfOk result (λ passed. IsTrue passed ↔ SomePasses (test_of asked.entry) field.now transforms.now request.now body_limit) }
+    ensures { IfOk result (λ passed. IsTrue passed ↔ SomePasses (test_of asked.now) field.now transforms.now request.now body_limit) }
 {
     let shown = parts(alloc, request, field, body_limit)?;
     let texts = transformed(alloc, transforms, shown.as_slice())?;

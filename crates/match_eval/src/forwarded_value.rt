@@ -1,6 +1,5 @@
 //! Whether the addresses of a forwarded header make a statement hold.
 
-ghost use Rattle.ip_cover.specs.Cover.{IsCovered};
 ghost use Rattle.match_eval.specs.ForwardedPieces.{IsPieceCounted};
 ghost use Rattle.request_parts.specs.PieceViews.{texts};
 ghost use Rattle.std.specs.Prelude.{◌≡◌, ◌↔◌, Any, IfOk, IsTrue, Some, take};
@@ -8,12 +7,11 @@ ghost use Rattle.waf_model.specs.AddressRange.{IsInSome};
 ghost use Rattle.waf_model.specs.ForwardedAddress.{ForwardedHolds, last_of as last_so_many, looked_at as looked_at_of};
 ghost use Rattle.waf_model.specs.Pieces.{cut};
 
-use crate::range_test::is_in_some;
+use crate::range_cover::RangeCover;
 use crate::trimming::trimmed;
-use ip_cover::IpCover;
 use ip_text::read_address;
 use std::alloc::{AllocError, Global};
-use waf_model::{Cidr, Forwarded, ForwardedPosition, Memory};
+use waf_model::{Forwarded, ForwardedPosition, Memory};
 
 /// How many of the last pieces `ANY` looks at (this project's own).
 const MOST_PIECES: usize = 10;
@@ -22,19 +20,15 @@ const MOST_PIECES: usize = 10;
 /// at is in one of the ranges, or the fallback is MATCH and one is no address. It fails only for want of memory.
 pub(crate) fn value_holds(
     alloc: Global,
-    ranges: &[Cidr],
+    cover: &RangeCover<'_>,
     forwarded: &Forwarded,
     value: &[u8],
 ) -> Result<bool, Memory>
-    ensures { IfOk result (λ holds. IsTrue holds ↔ ForwardedHolds ranges.now forwarded.now (Some value.now)) }
+    ensures { IfOk result (λ holds. IsTrue holds ↔ ForwardedHolds cover.now forwarded.now (Some value.now)) }
 {
     let pieces = cut_at_comma(alloc, value)?;
-    some_counts(
-        alloc,
-        ranges,
-        forwarded.fallback,
-        looked_at(forwarded.position, &pieces),
-    )
+    let tried = looked_at(forwarded.position, &pieces);
+    Ok(some_counts(cover, forwarded.fallback, tried))
 }
 
 /// The pieces between commas, with the blanks around them.
@@ -68,55 +62,18 @@ fn last_of<'a, 'b>(most: usize, pieces: &'a [&'b [u8]]) -> &'a [&'b [u8]]
     &pieces[pieces.len().saturating_sub(most)..]
 }
 
-/// Whether some piece counts. One address is tried on the ranges as they are; for several the ranges are prepared once.
-fn some_counts(
-    alloc: Global,
-    ranges: &[Cidr],
-    fallback: bool,
-    pieces: &[&[u8]],
-) -> Result<bool, Memory>
-    ensures { IfOk result (λ some. IsTrue some ↔ Any (IsPieceCounted (IsInSome ranges.now) fallback) (texts pieces.now)) }
+/// Whether some piece counts.
+fn some_counts(cover: &RangeCover<'_>, fallback: bool, pieces: &[&[u8]]) -> bool
+    ensures { IsTrue result ↔ Any (IsPieceCounted (IsInSome cover.now) fallback) (texts pieces.now) }
 {
-    match pieces {
-        [piece] => Ok(is_in_ranges(ranges, fallback, piece)),
-        _ => some_covered(alloc, ranges, fallback, pieces),
-    }
+    pieces.iter().any(|piece| counts(cover, fallback, piece))
 }
 
-fn some_covered(
-    alloc: Global,
-    ranges: &[Cidr],
-    fallback: bool,
-    pieces: &[&[u8]],
-) -> Result<bool, Memory>
-    ensures { IfOk result (λ some. IsTrue some ↔ Any (IsPieceCounted (IsInSome ranges.now) fallback) (texts pieces.now)) }
-{
-    let cover = IpCover::of(alloc, ranges)?;
-    Ok(some_is_covered(&cover, fallback, pieces))
-}
-
-fn some_is_covered(cover: &IpCover, fallback: bool, pieces: &[&[u8]]) -> bool
-    ensures { IsTrue result ↔ Any (IsPieceCounted (IsCovered cover.now) fallback) (texts pieces.now) }
-{
-    pieces
-        .iter()
-        .any(|piece| is_covered(cover, fallback, piece))
-}
-
-fn is_covered(cover: &IpCover, fallback: bool, piece: &[u8]) -> bool
-    ensures { IsTrue result ↔ IsPieceCounted (IsCovered cover.now) fallback piece.now }
+fn counts(cover: &RangeCover<'_>, fallback: bool, piece: &[u8]) -> bool
+    ensures { IsTrue result ↔ IsPieceCounted (IsInSome cover.now) fallback piece.now }
 {
     match read_address(trimmed(piece)) {
-        Some(address) => cover.holds(&address),
-        None => fallback,
-    }
-}
-
-fn is_in_ranges(ranges: &[Cidr], fallback: bool, piece: &[u8]) -> bool
-    ensures { IsTrue result ↔ IsPieceCounted (IsInSome ranges.now) fallback piece.now }
-{
-    match read_address(trimmed(piece)) {
-        Some(address) => is_in_some(ranges, address),
+        Some(address) => cover.has(&address),
         None => fallback,
     }
 }

@@ -3,19 +3,24 @@
 
 mod address_test;
 mod comparing;
-mod field_statement;
 mod field_test;
 mod forwarded_value;
+mod holding;
 mod label_test;
-mod range_test;
-mod set_look_up;
+mod pattern_search;
+mod prepared;
+mod prepared_set;
+mod preparing;
+mod range_cover;
+mod ready;
+mod sets;
 mod standing;
-mod statement_test;
 mod text_test;
 mod trimming;
 mod words;
 
-pub use statement_test::holds;
+pub use ready::{Ready, holds};
+pub use sets::Sets;
 
 #[cfg(test)]
 mod tests;

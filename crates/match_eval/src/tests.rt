@@ -2,12 +2,15 @@
 //! follow the descriptions of the API fields `PositionalConstraint` and `ComparisonOperator` and of logical statements.
 
 mod addresses;
+mod bundles;
 mod texts;
 mod trees;
+mod turns;
 
 use std::test::Fail;
 use texts::check_texts;
 use trees::check_trees;
+use turns::check_turns;
 
 #[test]
 fn a_search_string_stands(rt: HostRuntime) -> Result<(), Fail> {
@@ -130,4 +133,22 @@ ask=no not scoped=yes not => no
 label=a:x space=a and scoped=yes => yes
 ";
     check_trees(&rt, rt.alloc(), rows)
+}
+
+#[test]
+fn statements_are_asked_in_turn(rt: HostRuntime) -> Result<(), Fail> {
+    let rows = "
+regex=a|1/ab 1/b 1/ba 1/ 1/a|+-+-+
+set=b|1/a 1/b 1/c 1/e 1/f 1/b|-+-+-+
+set=c|1/a 1/b 1/c|---
+ip=b|1/ 2/ 3/ 2/|-+-+
+ip=c|1/ 2/ 3/|---
+ip=c not|1/ 2/|++
+set=a set=b and|1/a 1/ab 1/b 1/de|-+-+
+set=b set=b not or|1/a 1/b|++
+set=b set=b not and|1/a 1/b|--
+regex=a regex=b or|1/a 1/c 1/b|+-+
+ip=a ip=b or set=a and|1/a 2/d 3/a 1/b|++--
+";
+    check_turns(&rt, rt.alloc(), rows)
 }

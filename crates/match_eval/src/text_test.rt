@@ -1,37 +1,37 @@
 //! The test of texts.
 
-ghost use Rattle.std.specs.Prelude.{◌↔◌, Any, IfOk, IsTrue};
 ghost use Rattle.match_eval.specs.Asked.{test_of};
-ghost use Rattle.pattern_match.specs.Searches.{IsSearchOf};
-ghost use Rattle.std.specs.Prelude.{length};
+ghost use Rattle.std.specs.Prelude.{◌↔◌, Any, IfOk, IsTrue, length};
 ghost use Rattle.waf_model.specs.Passes.{Compares, Passes, Stands};
 ghost use Rattle.waf_model.specs.Pattern.{Found};
-ghost use Rattle.waf_model.specs.declared.pattern.Pattern.{Pattern};
 
 use crate::comparing::compares;
+use crate::pattern_search::PatternSearch;
 use crate::standing::stands;
-use pattern_match::Search;
 use std::alloc::Global;
-use waf_model::{Compare, Memory, Pattern, Position, Text};
+use waf_model::{Compare, Memory, Position, Text};
 
 /// What is asked of a text.
-#[derive(Clone, Copy)]
+#[derive(Drop)]
 pub(crate) enum Asked<'a> {
     /// That the search string stands in it so.
     Search(Position, &'a [u8]),
     /// That its length compares so with this one, both in bytes.
     Size(Compare, u64),
+    /// That the pattern is found in it.
+    Pattern(PatternSearch<'a>),
     /// That some pattern is found in it.
-    Patterns(&'a [Pattern]),
+    Patterns(&'a [PatternSearch<'a>]),
 }
 
 /// Whether some of the texts passes. It fails only for want of memory.
-pub(crate) fn some_passes(alloc: Global, asked: Asked<'_>, texts: &[Text]) -> Result<bool, Memory>
-    ensures { IfOk result (λ passed. IsTrue passed ↔ Any (Passes (test_of asked.entry)) texts.now) }
+pub(crate) fn some_passes(alloc: Global, asked: &Asked<'_>, texts: &[Text]) -> Result<bool, Memory>
+    ensures { IfOk result (λ passed. IsTrue passed ↔ Any (Passes (test_of asked.now)) texts.now) }
 {
-    match asked {
+    match *asked {
         Asked::Search(position, search) => Ok(some_stands(position, search, texts)),
         Asked::Size(op, size) => Ok(some_compares(op, size, texts)),
+        Asked::Pattern(ref pattern) => pattern.is_found(alloc, texts),
         Asked::Patterns(patterns) => some_found(alloc, patterns, texts),
     }
 }
@@ -54,35 +54,14 @@ fn some_compares(op: Compare, size: u64, texts: &[Text]) -> bool
         .any(|text| compares(op, text.bytes().len() as u64, size))
 }
 
-/// Whether some of the patterns is found in some of the texts. Each pattern is prepared once. It fails only for want of
-/// memory.
-fn some_found(alloc: Global, patterns: &[Pattern], texts: &[Text]) -> Result<bool, Memory>
+/// Whether some of the patterns is found in some of the texts. It fails only for want of memory.
+fn some_found(alloc: Global, patterns: &[PatternSearch<'_>], texts: &[Text]) -> Result<bool, Memory>
     ensures { IfOk result (λ found. IsTrue found ↔ Any (λ text. Any (λ pattern. Found pattern text) patterns.now) texts.now) }
 {
     for pattern in patterns {
-        if is_found(alloc, pattern, texts)? {
+        if pattern.is_found(alloc, texts)? {
             return Ok(true);
         }
     }
     Ok(false)
-}
-
-/// Whether the pattern is found in some of the texts. It fails only for want of memory.
-fn is_found(alloc: Global, pattern: &Pattern, texts: &[Text]) -> Result<bool, Memory>
-    ensures { IfOk result (λ found. IsTrue found ↔ Any (Found pattern.now) texts.now) }
-{
-    let mut search = Search::of(alloc, pattern)?;
-    Ok(found_in_some(&mut search, texts))
-}
-
-/// Whether the pattern that is searched for is found in some of the texts.
-fn found_in_some(search: &mut Search, texts: &[Text]) -> bool
-    ensures { (p : Pattern) → IsSearchOf p search.old → IsTrue result ↔ Any (Found p) texts.now }
-{
-    for text in texts {
-        if search.found_in(text.bytes()) {
-            return true;
-        }
-    }
-    false
 }

@@ -4,15 +4,13 @@
 ghost use Rattle.std.specs.Prelude.{◌≤◌};
 
 use crate::address_test::address_holds;
-use crate::range_test::is_in_some;
-use crate::set_look_up::{patterns_of_set, ranges_of};
+use crate::range_cover::RangeCover;
 use std::alloc::Global;
 use std::test::Fail;
 use waf_model::Address::{V4, V6};
 use waf_model::ForwardedPosition::{Any, First, Last};
 use waf_model::{
-    Acl, Address, Bundle, Cidr, Decision, Forwarded, ForwardedPosition, Header, IpSet, Items,
-    Memory, Pattern, RegexSet, Request, Text,
+    Address, Cidr, Forwarded, ForwardedPosition, Header, Items, Memory, Request, Text,
 };
 
 /// 2001:db8::
@@ -48,7 +46,8 @@ fn v6_range(base: u128, bits: u8) -> Cidr
 }
 
 #[test]
-fn a_range_has_its_addresses(rt: HostRuntime) {
+fn a_range_has_its_addresses(rt: HostRuntime) -> Result<(), Fail> {
+    let alloc = rt.alloc();
     let rows: [(Cidr, Address, bool); 16] = [
         (v4_range(0x0a00_0100, 24), V4(0x0a00_01ff), true),
         (v4_range(0x0a00_0100, 24), V4(0x0a00_00ff), false),
@@ -68,14 +67,15 @@ fn a_range_has_its_addresses(rt: HostRuntime) {
         (v6_range(0x0a00_0100, 128), V4(0x0a00_0100), false),
     ];
     for (range, address, wanted) in rows {
-        assert_eq!(rt;
-            is_in_some(&[range], address),
-            wanted,
-            "{range:?} {address:?}"
-        );
+        let ranges = [range];
+        let cover = RangeCover::of(alloc, &ranges)?;
+        assert_eq!(rt; cover.has(&address), wanted, "{range:?} {address:?}");
     }
-    assert!(rt; !is_in_some(&[], V4(0)));
-    assert!(rt; is_in_some(&RANGES, V6(DOCS)));
+    let nowhere = RangeCover::of(alloc, &[])?;
+    assert!(rt; !nowhere.has(&V4(0)));
+    let everywhere = RangeCover::of(alloc, &RANGES)?;
+    assert!(rt; everywhere.has(&V6(DOCS)));
+    Ok(())
 }
 
 /// A request from 203.0.113.9, with that value of the header `x-forwarded-for`.
@@ -119,17 +119,19 @@ fn holds(
 ) -> Result<bool, Memory> {
     let forwarded = forwarded_in(alloc, position, fallback)?;
     let request = request(alloc, value)?;
-    address_holds(alloc, &RANGES, &forwarded, &request)
+    let cover = RangeCover::of(alloc, &RANGES)?;
+    address_holds(alloc, &cover, &forwarded, &request)
 }
 
 #[test]
 fn a_client_has_an_address(rt: HostRuntime) -> Result<(), Fail> {
     let alloc = rt.alloc();
     let request = request(alloc, Some(b"192.0.2.7"))?;
-    let client = v4_range(0xcb00_7109, 32);
-    assert!(rt; !address_holds(alloc, &RANGES, &None, &request)?);
-    assert!(rt; address_holds(alloc, &[client], &None, &request)?);
-    assert!(rt; !address_holds(alloc, &[], &None, &request)?);
+    let others = RangeCover::of(alloc, &RANGES)?;
+    assert!(rt; !address_holds(alloc, &others, &None, &request)?);
+    let client = [v4_range(0xcb00_7109, 32)];
+    let its_own = RangeCover::of(alloc, &client)?;
+    assert!(rt; address_holds(alloc, &its_own, &None, &request)?);
     Ok(())
 }
 
@@ -243,68 +245,5 @@ fn pieces_are_looked_at_by_position(rt: HostRuntime) -> Result<(), Fail> {
             "{letters:?}"
         );
     }
-    Ok(())
-}
-
-fn ip_set(alloc: Global, arn: &[u8], range: Cidr) -> Result<IpSet, Memory> {
-    let mut ranges = Items::new(alloc);
-    ranges.push(range)?;
-    let arn = Text::of(alloc, arn)?;
-    Ok(IpSet { arn, ranges })
-}
-
-fn regex_set(alloc: Global, arn: &[u8], pattern: Pattern) -> Result<RegexSet, Memory> {
-    let mut patterns = Items::new(alloc);
-    patterns.push(pattern)?;
-    let arn = Text::of(alloc, arn)?;
-    Ok(RegexSet {
-        arn,
-        texts: Items::new(alloc),
-        patterns,
-        outside: false,
-    })
-}
-
-fn acl(alloc: Global) -> Acl {
-    Acl {
-        name: Text::new(alloc),
-        namespace: Text::new(alloc),
-        default: Decision::Allow,
-        captcha: 300,
-        challenge: 300,
-        body_limit: 8192,
-        rules: Items::new(alloc),
-    }
-}
-
-/// A bundle with two sets of the ARN `b` of each kind.
-fn bundle(alloc: Global) -> Result<Bundle, Memory> {
-    let mut ip_sets = Items::new(alloc);
-    ip_sets.push(ip_set(alloc, b"a", v4_range(1, 32))?)?;
-    ip_sets.push(ip_set(alloc, b"b", v4_range(2, 32))?)?;
-    ip_sets.push(ip_set(alloc, b"b", v4_range(3, 32))?)?;
-    let mut regex_sets = Items::new(alloc);
-    regex_sets.push(regex_set(alloc, b"a", Pattern::Start)?)?;
-    regex_sets.push(regex_set(alloc, b"b", Pattern::End)?)?;
-    regex_sets.push(regex_set(alloc, b"b", Pattern::Final)?)?;
-    Ok(Bundle {
-        acl: acl(alloc),
-        groups: Items::new(alloc),
-        ip_sets,
-        regex_sets,
-        managed: Items::new(alloc),
-    })
-}
-
-#[test]
-fn sets_are_looked_up(rt: HostRuntime) -> Result<(), Fail> {
-    let alloc = rt.alloc();
-    let bundle = bundle(alloc)?;
-    let listed = Text::of(alloc, b"b")?;
-    let missing = Text::of(alloc, b"B")?;
-    assert!(rt; matches!(ranges_of(&bundle, &listed), [range] if range.base == V4(2)));
-    assert!(rt; matches!(patterns_of_set(&bundle, &listed), [Pattern::End]));
-    assert!(rt; ranges_of(&bundle, &missing).is_empty());
-    assert!(rt; patterns_of_set(&bundle, &missing).is_empty());
     Ok(())
 }

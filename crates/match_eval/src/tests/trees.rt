@@ -1,42 +1,23 @@
 //! Tables of statements, each written behind its parts.
 
 use crate::holds;
+use crate::tests::bundles::{bundle_of_sets, byte_pattern};
 use label_scope::Labels;
 use std::alloc::Global;
 use std::process::Abort;
 use std::test::Fail;
 use waf_model::{
-    Acl, Address, Answers, Boxed, Bundle, Context, Decision, Items, LabelScope, Memory, Request,
-    Statement, StatementAnswer, Text,
+    Address, Answers, Boxed, Bundle, Context, Field, Items, LabelScope, Memory, Request, Statement,
+    StatementAnswer, Text,
 };
 
-// What statements are looked at in.
+/// What statements are looked at in.
 #[derive(Drop)]
-struct World {
-    bundle: Bundle,
-    request: Request,
-    answers: Answers,
-    seen: Labels,
-    namespace: Text,
-}
-
-// A bundle of nothing.
-fn nothing(alloc: Global) -> Bundle {
-    Bundle {
-        acl: Acl {
-            name: Text::new(alloc),
-            namespace: Text::new(alloc),
-            default: Decision::Allow,
-            captcha: 300,
-            challenge: 300,
-            body_limit: 8192,
-            rules: Items::new(alloc),
-        },
-        groups: Items::new(alloc),
-        ip_sets: Items::new(alloc),
-        regex_sets: Items::new(alloc),
-        managed: Items::new(alloc),
-    }
+pub(crate) struct World {
+    pub(crate) bundle: Bundle,
+    pub(crate) answers: Answers,
+    pub(crate) seen: Labels,
+    pub(crate) namespace: Text,
 }
 
 // A request of empty parts.
@@ -76,13 +57,14 @@ fn labels_of(alloc: Global) -> Result<Labels, Memory> {
     Ok(seen)
 }
 
-fn world_of(alloc: Global) -> Result<World, Memory> {
+/// The bundle of sets, with the answers to `yes` and `no` and the label `a:x` of the web ACL.
+pub(crate) fn world_of(alloc: Global) -> Result<World, Memory> {
+    let bundle = bundle_of_sets(alloc)?;
     let answers = answers_of(alloc)?;
     let seen = labels_of(alloc)?;
     let namespace = Text::of(alloc, b"awswaf:1:webacl:w:")?;
     Ok(World {
-        bundle: nothing(alloc),
-        request: empty_request(alloc),
+        bundle,
         answers,
         seen,
         namespace,
@@ -112,6 +94,30 @@ fn boxed(alloc: Global, parts: &mut Items<Statement>) -> Result<Boxed<Statement>
     Ok(Boxed::new(alloc, part)?)
 }
 
+// A statement that tests the path for a byte or for the pattern set of that ARN, or the address for an address set.
+fn looking(alloc: Global, kind: &str, key: &str) -> Result<Option<Statement>, Memory> {
+    let arn = Text::of(alloc, key.as_bytes())?;
+    let byte = key.as_bytes().first().copied().unwrap_or(0);
+    match kind {
+        "regex" => Ok(Some(Statement::Regex {
+            pattern: byte_pattern(byte),
+            field: Field::UriPath,
+            transforms: Items::new(alloc),
+        })),
+        "set" => Ok(Some(Statement::PatternSet {
+            arn,
+            field: Field::UriPath,
+            transforms: Items::new(alloc),
+            source: Text::new(alloc),
+        })),
+        "ip" => Ok(Some(Statement::Ip {
+            arn,
+            forwarded: None,
+        })),
+        _ => Ok(None),
+    }
+}
+
 // A statement of a key.
 fn keyed(
     alloc: Global,
@@ -119,6 +125,9 @@ fn keyed(
     key: &str,
     parts: &mut Items<Statement>,
 ) -> Result<Statement, Fail> {
+    if let Some(statement) = looking(alloc, kind, key)? {
+        return Ok(statement);
+    }
     let key = Text::of(alloc, key.as_bytes())?;
     match kind {
         "label" => Ok(Statement::Label {
@@ -159,8 +168,8 @@ fn joined(alloc: Global, word: &str, parts: &mut Items<Statement>) -> Result<Sta
     }
 }
 
-// The statement that the words say.
-fn built(alloc: Global, words: &str) -> Result<Statement, Fail> {
+/// The statement that the words say.
+pub(crate) fn built(alloc: Global, words: &str) -> Result<Statement, Fail> {
     let mut parts = Items::new(alloc);
     for word in words.split(' ') {
         let part = match word.split_once('=') {
@@ -175,6 +184,7 @@ fn built(alloc: Global, words: &str) -> Result<Statement, Fail> {
 // Whether the statement that the words say holds.
 fn held(alloc: Global, world: &World, words: &str) -> Result<bool, Fail> {
     let statement = built(alloc, words)?;
+    let request = empty_request(alloc);
     let context = Context {
         bundle: &world.bundle,
         namespace: &world.namespace,
@@ -182,7 +192,7 @@ fn held(alloc: Global, world: &World, words: &str) -> Result<bool, Fail> {
     Ok(holds(
         alloc,
         &statement,
-        &world.request,
+        &request,
         &world.answers,
         &world.seen,
         &context,

@@ -7,7 +7,7 @@ use Rattle.match_eval.proofs.Searching.{tells_of_images}
 use Rattle.match_eval.proofs.field_test.some_shown_passes.Goals as goal
 
 pub returns : goal.returns
-returns c = tells_of_images (transform_all c.args.transforms.now) (Passes (test_of c.args.asked)) (shown c.args.field.now c.args.request.now c.args.body_limit)
+returns c = tells_of_images (transform_all c.args.transforms.now) (Passes (test_of c.args.asked.now)) (shown c.args.field.now c.args.request.now c.args.body_limit)
     c.as_slice-2.result.now c.in_ok-passed.passed
     (c.as_slice-2.ensures ∙ c.in_ok-texts.ensures
     ∙ ap (λ (texts : List (List ℕ)). map (transform_all c.args.transforms.now) texts) (c.as_slice.ensures ∙ c.in_ok-shown.ensures))
