@@ -1,9 +1,9 @@
 -- The walk over the rules of a web ACL comes to its outcome.
-use Rattle.std.proofs.Common.{◌≡◌, ℕ, ◌+◌, ◌<◌, ◌↔◌, List, [], ◌∷◌, ◌++◌, length, get_or, take, drop, map, reverse, append_assoc, append-nil, AllPairs, IsTrue, Option, Some, None, inl, inr, refl, sym, ap, subst, ◌∙◌, flat_map}
+use Rattle.std.proofs.Common.{◌≡◌, ℕ, ◌+◌, ◌<◌, List, [], ◌∷◌, ◌++◌, length, get_or, take, drop, reverse, append_assoc, append-nil, AllPairs, IsTrue, Some, None, inl, inr, refl, sym, ap, subst, ◌∙◌}
 use Rattle.std.proofs.lemmas.Grind.{flat_map-append}
 use Rattle.std.specs.Cmp.Lexicographic.{slice_cmp}
 use Rattle.std.specs.Ordering.{is_lt, nat_cmp}
-use Rattle.acl_eval.specs.Walk.{IsWalked, IsDecided, IsWalk}
+use Rattle.acl_eval.specs.Walk.{IsWalked, IsWalk}
 use Rattle.acl_eval.specs.declared.case.End.{End}
 use Rattle.acl_eval.proofs.Among.{none_among}
 use Rattle.acl_eval.proofs.Apart.{before_differ}

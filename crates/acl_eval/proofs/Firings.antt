@@ -1,5 +1,5 @@
 -- One step more: which labels were seen behind it, whether it decides, and for which rules the evaluation ended.
-use Rattle.std.proofs.Common.{◌≡◌, ℕ, ◌⊎◌, List, [], ◌∷◌, ◌++◌, Bool, true, false, IsTrue, IsSome, Option, Some, None, inl, inr, refl, sym, ap, ◌∙◌}
+use Rattle.std.proofs.Common.{◌≡◌, ℕ, ◌⊎◌, List, [], ◌∷◌, ◌++◌, true, IsSome, Option, Some, None, inl, inr, refl, sym, ap, ◌∙◌}
 use Rattle.std.proofs.lemmas.Bool.{false≢true}
 use Rattle.acl_eval.specs.Walk.{IsWalked}
 use Rattle.waf_model.specs.Firing.{Ended, Fires, Seen, end_of_tried, labels_of_tried}

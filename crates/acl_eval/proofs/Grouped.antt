@@ -1,6 +1,6 @@
 -- A walk over the rules of a group.
-use Rattle.std.proofs.Common.{◌≡◌, ℕ, ◌+◌, ◌<◌, ◌⊎◌, List, [], ◌∷◌, ◌++◌, length, get_or, take, drop, map, reverse, Bool, true, false, Option, Some, None, inl, inr, refl, sym, ap, subst, ◌∙◌}
-use Rattle.acl_eval.specs.Walk.{IsWalked, IsDecided, IsWalk}
+use Rattle.std.proofs.Common.{◌≡◌, ℕ, ◌+◌, ◌<◌, List, [], ◌∷◌, ◌++◌, length, get_or, take, drop, map, reverse, Bool, true, false, Option, Some, None, inl, inr, refl, sym, ap, subst, ◌∙◌}
+use Rattle.acl_eval.specs.Walk.{IsWalked, IsWalk}
 use Rattle.acl_eval.specs.declared.case.End.{End}
 use Rattle.acl_eval.proofs.Firings.{passes_by}
 use Rattle.acl_eval.proofs.Lists.{mapped_more, parted_map, reversed_cons, reversed_parts}

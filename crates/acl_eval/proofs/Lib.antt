@@ -8,3 +8,5 @@ mod Matching
 mod OneOutcome
 mod OneStep
 mod Places
+mod Readied
+mod Referred

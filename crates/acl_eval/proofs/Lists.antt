@@ -1,7 +1,7 @@
 -- Lists that are walked over, the latest first.
-use Rattle.std.proofs.Common.{◌≡◌, ℕ, suc, ◌+◌, ◌<◌, List, [], ◌∷◌, ◌++◌, length, get_or, take, drop, drop-cons, add-one, map, reverse, append_assoc, append-nil, take-append-drop, refl, sym, ap, ◌∙◌}
+use Rattle.std.proofs.Common.{◌≡◌, ℕ, suc, ◌+◌, ◌<◌, List, [], ◌∷◌, ◌++◌, length, get_or, take, drop, drop-cons, add-one, map, reverse, append_assoc, take-append-drop, sym, ap, ◌∙◌}
 use Rattle.std.proofs.lemmas.List.{take_more}
-use mathlib.Core.List.{map-append, reverse-append, reverse-cons, reverse-reverse}
+use mathlib.Core.List.{map-append, reverse-append, reverse-cons}
 
 -- one more in front of what stood before
 pub reversed_cons : {A : Type 0} (x : A) (xs before : List A) → reverse (x ∷ xs) ++ before ≡ reverse xs ++ x ∷ before

@@ -1,5 +1,5 @@
 -- Whether a step matches depends on which labels were seen alone.
-use Rattle.std.proofs.Common.{◌≡◌, ℕ, ◌↔◌, ◌⊎◌, List, Option, Some, None, inl, inr}
+use Rattle.std.proofs.Common.{ℕ, ◌↔◌, List, Option, Some, None, inl, inr}
 use Rattle.waf_model.specs.Firing.{HoldsIfThere, Matches}
 use Rattle.waf_model.specs.Holds.{Condition, never, always, tested, addressed, labelled, answered, both, either, opposite, IsMet, condition}
 use Rattle.waf_model.specs.Steps.{Tried, rule, managed}

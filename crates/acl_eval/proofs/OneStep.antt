@@ -1,14 +1,14 @@
 -- A walk over one step.
-use Rattle.std.proofs.Common.{◌≡◌, ℕ, ◌↔◌, ◌⊎◌, List, [], ◌∷◌, ◌++◌, Bool, true, false, IsTrue, IsSome, Option, Some, None, inl, inr, refl, sym, ap, ◌∙◌}
-use Rattle.acl_eval.specs.Trying.{IsTried, HasMatched, HasNotMatched, with_labels}
-use Rattle.acl_eval.specs.Walk.{IsWalked, IsDecided, IsWalk}
+use Rattle.std.proofs.Common.{◌≡◌, ℕ, ◌↔◌, ◌⊎◌, List, [], ◌∷◌, true, false, IsSome, Option, Some, None, inl, inr, refl, sym, ◌∙◌}
+use Rattle.acl_eval.specs.Trying.{IsTried, HasMatched, with_labels}
+use Rattle.acl_eval.specs.Walk.{IsWalked, IsWalk}
 use Rattle.acl_eval.specs.declared.case.End.{End}
 use Rattle.acl_eval.proofs.Among.{some_from, some_to_old, some_to_new}
 use Rattle.acl_eval.proofs.Firings.{none_more, passes_by, still_open, seen_more, undecided, no_end}
 use Rattle.acl_eval.proofs.Matching.{matches_same}
 use Rattle.waf_model.specs.Firing.{Ended, Fires, Seen, Matches, end_of_tried, labels_of_tried}
 use Rattle.waf_model.specs.LabelMatch.{IsAmong}
-use Rattle.waf_model.specs.Outcome.{Decides, NoneDecides}
+use Rattle.waf_model.specs.Outcome.{Decides}
 use Rattle.waf_model.specs.Steps.{Step}
 use Rattle.waf_model.specs.declared.action.Decision.{Decision}
 use Rattle.waf_model.specs.declared.answers.Answers.{Answers}

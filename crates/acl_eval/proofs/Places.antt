@@ -1,9 +1,8 @@
 -- The evaluation of a web ACL hasn't ended for a rule before the rule is reached: places of rules differ.
-use Rattle.std.proofs.Common.{◌≡◌, ◌≢◌, ℕ, zero, suc, ◌+◌, ◌<◌, List, [], ◌∷◌, ◌++◌, length, get_or, take, map, reverse, Bool, true, false, ◌==◌, IsTrue, IsSome, IsPermutation, Option, Some, None, inl, inr, refl, sym, ap, subst, ◌∙◌, arith, flat_map}
+use Rattle.std.proofs.Common.{◌≡◌, ◌≢◌, ℕ, List, [], ◌∷◌, ◌++◌, map, reverse, Bool, true, false, IsSome, Option, Some, None, inl, inr, refl, flat_map}
 use Rattle.std.specs.Option.{option_map_or}
-use Rattle.std.proofs.lemmas.Bool.{false≢true}
 use Rattle.acl_eval.proofs.Firings.{none_less, not_this}
-use Rattle.waf_model.specs.Firing.{Ended, Fires, end_of_tried}
+use Rattle.waf_model.specs.Firing.{Ended, end_of_tried}
 use Rattle.waf_model.specs.Outcome.{NoneDecides}
 use Rattle.waf_model.specs.References.{group_of}
 use Rattle.waf_model.specs.Steps.{Step, group_step, steps_of}

@@ -1,2 +1,3 @@
+pub mod Preparation
 pub mod Trying
 pub mod Walk

@@ -4,16 +4,13 @@ ghost use Rattle.std.specs.Prelude.{IfOk};
 ghost use Rattle.waf_model.specs.Outcome.{IsOutcome};
 ghost use Rattle.waf_model.specs.WholeBundle.{IsWhole};
 
-use crate::case::Case;
-use crate::walking::walked_top;
-use label_scope::Labels;
+use crate::prepared::Prepared;
+use match_eval::Sets;
 use std::alloc::Global;
-use waf_model::{Answers, Bundle, Ender, Memory, Outcome, Request};
+use waf_model::{Answers, Bundle, Memory, Outcome, Request};
 
-/// The outcome of the bundle's web ACL on the request, under the answers (AWS WAF Developer Guide, "How AWS WAF processes
-/// rules and rule groups in a web ACL"): rules are tried by ascending priority, those that match add their labels, and the
-/// first whose action ends it decides, or else the default action. It is one walk over the rules. It fails only for want
-/// of memory.
+/// The outcome of the bundle's web ACL on one request, under the answers. Where there are more requests, `Prepared` prepares
+/// the web ACL once for all of them. It fails only for want of memory.
 pub fn evaluate(
     alloc: Global,
     bundle: &Bundle,
@@ -23,27 +20,8 @@ pub fn evaluate(
     requires whole { IsWhole bundle.now }
     ensures { IfOk result (IsOutcome bundle.now request.now answers.now) }
 {
-    let case = Case {
-        bundle,
-        request,
-        answers,
-    };
-    let mut labels = Labels::new(alloc);
-    for top in bundle.acl.rules.as_slice() {
-        match walked_top(alloc, case, top, &mut labels)? {
-            None => {}
-            Some(end) => {
-                return Ok(Outcome {
-                    decision: end.decision,
-                    ender: end.ender,
-                    labels: labels.sorted()?,
-                });
-            }
-        }
-    }
-    Ok(Outcome {
-        decision: bundle.acl.default,
-        ender: Ender::Default,
-        labels: labels.sorted()?,
-    })
+    let sets = Sets::of(alloc, bundle)?;
+    let prepared = Prepared::of(alloc, bundle, &sets)?;
+    let outcome = prepared.evaluate(alloc, request, answers)?;
+    Ok(outcome)
 }

@@ -1,6 +1,8 @@
 //! The text of an outcome, line by line. That the steps of web ACLs come to their outcomes is tested through the program.
 
-use crate::{decision_word, write_outcome};
+mod prepared;
+
+use crate::{write_decision, write_outcome};
 use std::alloc::Global;
 use std::test::Fail;
 use waf_model::{Capacity, Decision, Ender, Items, Memory, Outcome, Text};
@@ -40,7 +42,7 @@ const OUTCOMES: [Written; 6] = [
         &[],
         728,
         0,
-        "decision BLOCK\nrule 0 a\ncapacity 728\n",
+        "decision BLOCK 403\nrule 0 a\ncapacity 728\n",
     ),
     (
         Decision::Captcha,
@@ -64,7 +66,7 @@ const OUTCOMES: [Written; 6] = [
         &[""],
         0,
         1,
-        "decision BLOCK\nrule 0  / 0 \nlabel \ncapacity 0 unknown 1\n",
+        "decision BLOCK 403\nrule 0  / 0 \nlabel \ncapacity 0 unknown 1\n",
     ),
     (
         Decision::Allow,
@@ -122,10 +124,18 @@ fn outcomes_are_written_line_by_line(rt: HostRuntime) -> Result<(), Fail> {
 }
 
 #[test]
-fn decisions_have_their_words(rt: HostRuntime) -> Result<(), Fail> {
-    assert_eq!(rt; decision_word(Decision::Allow), "ALLOW");
-    assert_eq!(rt; decision_word(Decision::Block { code: 599 }), "BLOCK");
-    assert_eq!(rt; decision_word(Decision::Captcha), "CAPTCHA");
-    assert_eq!(rt; decision_word(Decision::Challenge), "CHALLENGE");
+fn decisions_have_their_names(rt: HostRuntime) -> Result<(), Fail> {
+    let alloc = rt.alloc();
+    let names = [
+        (Decision::Allow, "> ALLOW"),
+        (Decision::Block { code: 599 }, "> BLOCK 599"),
+        (Decision::Captcha, "> CAPTCHA"),
+        (Decision::Challenge, "> CHALLENGE"),
+    ];
+    for (decision, wanted) in names.iter() {
+        let mut text = Text::of(alloc, b"> ")?;
+        write_decision(alloc, &mut text, *decision)?;
+        assert_eq!(rt; text.bytes(), wanted.as_bytes());
+    }
     Ok(())
 }

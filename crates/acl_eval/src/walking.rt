@@ -1,34 +1,45 @@
 //! The walk over the steps of a rule of the web ACL.
 
-ghost use Rattle.std.specs.Prelude.{◌≡◌, [], ◌∷◌, None, Some, IfOk, false, map, option_map, true};
+ghost use Rattle.std.specs.Prelude.{◌≡◌, [], ◌∷◌, None, Some, IfOk, IfSome, false, map, option_map, true};
 ghost use Rattle.std.specs.Option.{option_map_or};
+ghost use Rattle.acl_eval.specs.Preparation.{AreReadyGroups, IsReadyGroup, IsReadyRule, IsReadyScope, IsReadyTop};
 ghost use Rattle.acl_eval.specs.Walk.{IsWalk};
 ghost use Rattle.waf_model.specs.Steps.{group_step, managed_step, plain_step, steps_of};
 ghost use Rattle.waf_model.specs.declared.outcome.Ender.TheVariants as enders;
 
 use crate::case::{Case, End};
+use crate::ready_group::{ReadyGroup, referred_ready};
+use crate::ready_rule::ReadyRule;
+use crate::ready_top::{ReadyBody, ReadyTop};
 use crate::trying::{tried_managed, tried_rule};
-use group_override::{effective_action, referred_group};
+use group_override::effective_action;
 use label_scope::Labels;
+use match_eval::Ready;
 use std::alloc::Global;
-use waf_model::{Decision, Ender, Group, GroupUse, ManagedUse, Memory, Rule, Text, Top, TopRule};
+use waf_model::{Decision, Ender, GroupUse, ManagedUse, Memory, Rule, Text, TopRule};
 
-/// Walks over the steps of the rule: adds the labels of those that fire, and tells what ended the evaluation.
+/// Walks over the steps of the rule: adds the labels of those that fire, and tells what ended the evaluation. The groups are
+/// those of the bundle.
 pub(crate) fn walked_top(
     alloc: Global,
     case: Case<'_>,
-    top: &TopRule,
+    groups: &[ReadyGroup<'_>],
+    ready: &ReadyTop<'_>,
     labels: &mut Labels,
 ) -> Result<Option<End>, Memory>
-    ensures { IfOk result (IsWalk case.entry.bundle.now case.entry.request.now case.entry.answers.now top.now.place (steps_of case.entry.bundle.now top.now top.now.body) labels.old labels.new) }
+    ensures { AreReadyGroups case.entry.bundle.now case.entry.bundle.now.groups groups.now → IsReadyTop case.entry.bundle.now ready.now
+        → IfOk result (IsWalk case.entry.bundle.now case.entry.request.now case.entry.answers.now ready.now.top.now.place (steps_of case.entry.bundle.now ready.now.top.now ready.now.top.now.body) labels.old labels.new) }
 {
-    match &top.body {
-        Top::Plain(rule) => walked_plain(alloc, case, top, rule, labels),
-        Top::Group(use_of) => {
-            let group = referred_group(case.bundle.groups.as_slice(), &use_of.arn);
+    let top = ready.top;
+    match &ready.body {
+        ReadyBody::Plain(rule) => walked_plain(alloc, case, top, rule, labels),
+        ReadyBody::Group(use_of) => {
+            let group = referred_ready(groups, &use_of.arn);
             walked_group(alloc, case, top, use_of, group, labels)
         }
-        Top::Managed(use_of) => walked_managed(alloc, case, top, use_of, labels),
+        ReadyBody::Managed { use_of, scope_down } => {
+            walked_managed(alloc, case, top, use_of, scope_down, labels)
+        }
     }
 }
 
@@ -37,13 +48,14 @@ fn walked_plain(
     alloc: Global,
     case: Case<'_>,
     top: &TopRule,
-    rule: &Rule,
+    ready: &ReadyRule<'_>,
     labels: &mut Labels,
 ) -> Result<Option<End>, Memory>
-    ensures { IfOk result (IsWalk case.entry.bundle.now case.entry.request.now case.entry.answers.now top.now.place (plain_step case.entry.bundle.now top.now rule.now ∷ []) labels.old labels.new) }
+    ensures { IsReadyRule case.entry.bundle.now ready.now
+        → IfOk result (IsWalk case.entry.bundle.now case.entry.request.now case.entry.answers.now top.now.place (plain_step case.entry.bundle.now top.now ready.now.rule.now ∷ []) labels.old labels.new) }
 {
     let namespace = &case.bundle.acl.namespace;
-    match tried_rule(alloc, case, namespace, rule.action, rule, labels)? {
+    match tried_rule(alloc, case, namespace, ready.rule.action, ready, labels)? {
         None => Ok(None),
         Some(decision) => ended_at(alloc, top, decision),
     }
@@ -68,10 +80,11 @@ fn walked_group(
     case: Case<'_>,
     top: &TopRule,
     use_of: &GroupUse,
-    group: Option<&Group>,
+    group: Option<&ReadyGroup<'_>>,
     labels: &mut Labels,
 ) -> Result<Option<End>, Memory>
-    ensures { IfOk result (IsWalk case.entry.bundle.now case.entry.request.now case.entry.answers.now top.now.place (option_map_or (λ group. map (group_step top.now use_of.now group) group.rules) (option_map (λ group. group.now) group.entry) []) labels.old labels.new) }
+    ensures { IfSome (option_map (λ ready. ready.now) group.entry) (IsReadyGroup case.entry.bundle.now)
+        → IfOk result (IsWalk case.entry.bundle.now case.entry.request.now case.entry.answers.now top.now.place (option_map_or (λ ready. map (group_step top.now use_of.now ready.group.now) ready.group.now.rules) (option_map (λ ready. ready.now) group.entry) []) labels.old labels.new) }
 {
     match group {
         None => Ok(None),
@@ -85,14 +98,17 @@ fn walked_rules(
     case: Case<'_>,
     top: &TopRule,
     use_of: &GroupUse,
-    group: &Group,
+    group: &ReadyGroup<'_>,
     labels: &mut Labels,
 ) -> Result<Option<End>, Memory>
-    ensures { IfOk result (IsWalk case.entry.bundle.now case.entry.request.now case.entry.answers.now top.now.place (map (group_step top.now use_of.now group.now) group.now.rules) labels.old labels.new) }
+    ensures { IsReadyGroup case.entry.bundle.now group.now
+        → IfOk result (IsWalk case.entry.bundle.now case.entry.request.now case.entry.answers.now top.now.place (map (group_step top.now use_of.now group.now.group.now) group.now.group.now.rules) labels.old labels.new) }
 {
-    for rule in group.rules.as_slice() {
+    let namespace = &group.group.namespace;
+    for ready in group.rules.as_slice() {
+        let rule = ready.rule;
         let action = effective_action(use_of, rule);
-        match tried_rule(alloc, case, &group.namespace, action, rule, labels)? {
+        match tried_rule(alloc, case, namespace, action, ready, labels)? {
             None => {}
             Some(decision) => return ended_inside(alloc, top, use_of, rule, decision),
         }
@@ -131,11 +147,13 @@ fn walked_managed(
     case: Case<'_>,
     top: &TopRule,
     use_of: &ManagedUse,
+    scope_down: &Option<Ready<'_>>,
     labels: &mut Labels,
 ) -> Result<Option<End>, Memory>
-    ensures { IfOk result (IsWalk case.entry.bundle.now case.entry.request.now case.entry.answers.now top.now.place (managed_step case.entry.bundle.now top.now use_of.now ∷ []) labels.old labels.new) }
+    ensures { IsReadyScope case.entry.bundle.now use_of.now.scope_down scope_down.now
+        → IfOk result (IsWalk case.entry.bundle.now case.entry.request.now case.entry.answers.now top.now.place (managed_step case.entry.bundle.now top.now use_of.now ∷ []) labels.old labels.new) }
 {
-    match tried_managed(alloc, case, use_of, labels)? {
+    match tried_managed(alloc, case, use_of, scope_down, labels)? {
         None => Ok(None),
         Some(decision) => {
             if use_of.count {

@@ -13,30 +13,33 @@ pub fn write_outcome(alloc: Global, outcome: &Outcome, capacity: &Capacity) -> R
     ensures { IfOk result (λ text. text ≡ outcome_text outcome.now capacity.now) }
 {
     let mut text = Text::new(alloc);
-    write_decision(&mut text, outcome.decision)?;
+    write_decision_line(alloc, &mut text, outcome.decision)?;
     write_ender(alloc, &mut text, &outcome.ender)?;
     write_labels(&mut text, outcome.labels.as_slice())?;
     write_capacity(alloc, &mut text, capacity)?;
     Ok(text)
 }
 
-/// A decision's name, as it is printed.
-pub fn decision_word(decision: Decision) -> &'static str
-    ensures { result.now ≡ decision_name decision }
+/// Adds a decision's name as it is printed. It fails only for want of memory.
+pub fn write_decision(alloc: Global, text: &mut Text, decision: Decision) -> Result<(), Memory>
+    ensures { OnOk result (text.new ≡ text.old ++ decision_name decision) }
 {
     match decision {
-        Decision::Allow => "ALLOW",
-        Decision::Block { code: _ } => "BLOCK",
-        Decision::Captcha => "CAPTCHA",
-        Decision::Challenge => "CHALLENGE",
+        Decision::Allow => text.push(b"ALLOW"),
+        Decision::Block { code } => {
+            text.push(b"BLOCK ")?;
+            text.push_number(alloc, u64::from(code))
+        }
+        Decision::Captcha => text.push(b"CAPTCHA"),
+        Decision::Challenge => text.push(b"CHALLENGE"),
     }
 }
 
-fn write_decision(text: &mut Text, decision: Decision) -> Result<(), Memory>
+fn write_decision_line(alloc: Global, text: &mut Text, decision: Decision) -> Result<(), Memory>
     ensures { OnOk result (text.new ≡ text.old ++ decision_line decision) }
 {
     text.push(b"decision ")?;
-    text.push(decision_word(decision).as_bytes())?;
+    write_decision(alloc, text, decision)?;
     text.push(b"\n")
 }
 

@@ -1,4 +1,4 @@
-use Rattle.std.proofs.Common.{◌≡◌, ◌++◌, map, drop}
+use Rattle.std.proofs.Common.{◌≡◌, drop}
 use Rattle.acl_eval.specs.Trying.{with_labels}
 use Rattle.acl_eval.proofs.trying.add_all.Given as goal
 
