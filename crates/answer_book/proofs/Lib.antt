@@ -1,3 +1,4 @@
 pub mod Inserted
+pub mod Lawful
 pub mod Members
 pub mod Tokens
