@@ -1,0 +1,4 @@
+pub mod Comparison
+pub mod Lines
+pub mod LogReading
+pub mod Replayed
