@@ -1,4 +1,5 @@
 pub mod TakenMore
+pub mod Replays
 pub mod Reviewed
 pub mod DueAnswers
 pub mod LaterEnd

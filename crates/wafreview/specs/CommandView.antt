@@ -1,6 +1,6 @@
 -- A command of the code as a command of the grammar.
 use Rattle.std.specs.Prelude.{option_map}
-use Rattle.wafreview.specs.CommandLine.{Command, evaluate, capacity, keys, review}
+use Rattle.wafreview.specs.CommandLine.{Command, evaluate, capacity, keys, review, impact}
 use Rattle.wafreview.specs.declared.command.Command as code
 use Rattle.wafreview.specs.declared.command.Command.TheVariants as variants
 
@@ -9,3 +9,4 @@ command_view (variants.Evaluate bundle request answers) = evaluate bundle.now re
 command_view (variants.Capacity bundle) = capacity bundle.now
 command_view (variants.Keys bundle) = keys bundle.now
 command_view (variants.Review old new) = review old.now new.now
+command_view (variants.Impact old new log answers) = impact old.now new.now log.now (option_map (λ name. name.now) answers)

@@ -18,17 +18,14 @@ use Rattle.waf_model.specs.declared.read_fault.ReadFault.{ReadFault}
 use Rattle.waf_model.specs.declared.read_fault.ReadFault.TheVariants.{NotBuilt}
 use Rattle.waf_model.specs.declared.request.Request.{Request}
 use Rattle.parting_build.specs.Reviewed.{HasLeastHeaderBytes}
+use Rattle.impact_replay.specs.LogReading.{log_reading}
 use Rattle.request_parts.specs.RequestReading.{request_reading}
 use Rattle.set_json.specs.Bundles.{bundle_reading}
-use Rattle.wafreview.specs.CommandLine.{Command, evaluate, capacity, keys, review}
+use Rattle.wafreview.specs.CommandLine.{Command, evaluate, capacity, keys, review, impact}
+use Rattle.wafreview.specs.ImpactDue.{ImpactDue}
 use Rattle.wafreview.specs.KeysText.{keys_text}
-use Rattle.wafreview.specs.Texts.{refused_text}
-use Rattle.wafreview.specs.declared.role.Role.{Role}
+use Rattle.wafreview.specs.Refusal.{IsRefused}
 use Rattle.wafreview.specs.declared.role.Role.TheVariants as roles
-
--- a text with a fault is refused
-abbrev pub IsRefused : Role → ReadFault → ℕ → List ℕ → Type 0
-IsRefused role fault code text = (code ≡ 3) × (text ≡ refused_text role fault)
 
 -- what the answers are read as; there are none where no file of answers is named
 abbrev pub given_reading : Option (List ℕ) → Result Answers ReadFault
@@ -109,4 +106,6 @@ Due (evaluate bundle request answers) (b ∷ r ∷ a ∷ []) code text = Evaluat
 Due (capacity bundle) (b ∷ []) code text = CapacityDue (bundle_reading b) code text
 Due (keys bundle) (b ∷ []) code text = KeysDue (bundle_reading b) code text
 Due (review old new) (o ∷ n ∷ []) code text = ReviewDue (bundle_reading o) (bundle_reading n) code text
+Due (impact old new log answers) (o ∷ n ∷ l ∷ []) code text = ImpactDue (bundle_reading o) (bundle_reading n) (log_reading l) (given_reading None) code text
+Due (impact old new log answers) (o ∷ n ∷ l ∷ a ∷ []) code text = ImpactDue (bundle_reading o) (bundle_reading n) (log_reading l) (given_reading (Some a)) code text
 Due command contents code text = ⊥

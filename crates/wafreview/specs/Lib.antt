@@ -8,6 +8,9 @@ pub mod Due
 pub mod Ended
 pub mod Files
 pub mod Fronts
+pub mod ImpactDue
+pub mod ImpactText
 pub mod KeysText
+pub mod Refusal
 pub mod ReviewText
 pub mod Texts

@@ -1,9 +1,9 @@
--- The texts of answers that are no outcome and no review (this project's own). Each is one line that ends in a newline.
+-- The texts of answers that are no outcome, no review and no impact (this project's own). Each is one line that ends in a newline.
 use Rattle.std.specs.Prelude.{ℕ, List, [], ◌++◌, codes, decimal}
 use Rattle.waf_model.specs.declared.read_fault.ReadFault.{ReadFault}
 use Rattle.waf_model.specs.declared.read_fault.ReadFault.TheVariants.{Json, Shape, Number, Name, SamePriority, Action, Nested, Missing, Base64, Address, Limit, Namespace, OneStatement, NotBuilt, Memory}
 use Rattle.wafreview.specs.declared.role.Role.{Role}
-use Rattle.wafreview.specs.declared.role.Role.TheVariants.{Bundle, Request, Answers, Old, New}
+use Rattle.wafreview.specs.declared.role.Role.TheVariants.{Bundle, Request, Answers, Old, New, Log}
 
 -- a role's name
 abbrev pub role_name : Role → List ℕ
@@ -12,10 +12,11 @@ role_name Request = codes "request"
 role_name Answers = codes "answers"
 role_name Old = codes "old"
 role_name New = codes "new"
+role_name Log = codes "log"
 
 -- words outside the grammar
 abbrev pub usage_text : List ℕ
-usage_text = codes "usage: wafreview evaluate BUNDLE REQUEST [ANSWERS] | capacity BUNDLE | keys BUNDLE | review OLD NEW [--nodes N] | generate K\n"
+usage_text = codes "usage: wafreview evaluate BUNDLE REQUEST [ANSWERS] | capacity BUNDLE | keys BUNDLE | review OLD NEW [--nodes N] | generate K | impact OLD NEW LOG [ANSWERS]\n"
 
 -- a file that was not read
 abbrev pub unread_text : Role → List ℕ
@@ -50,3 +51,7 @@ fault_text Memory = []
 -- a text with a fault
 abbrev pub refused_text : Role → ReadFault → List ℕ
 refused_text role fault = codes "refused " ++ role_name role ++ codes " " ++ fault_text fault ++ codes "\n"
+
+-- a line of a log with a fault, by its number
+abbrev pub refused_line_text : ℕ → ReadFault → List ℕ
+refused_line_text number fault = codes "refused log:" ++ decimal number ++ codes " " ++ fault_text fault ++ codes "\n"

@@ -26,6 +26,13 @@ pub(crate) enum Command<'a> {
         old: &'a str,
         new: &'a str,
     },
+    /// Which requests of a log two revisions decide otherwise, under the answers where a file of them is named.
+    Impact {
+        old: &'a str,
+        new: &'a str,
+        log: &'a str,
+        answers: Option<&'a str>,
+    },
 }
 
 /// Whether the word is the name of a file: it is not empty and does not begin with `-`.
@@ -43,20 +50,27 @@ pub(crate) fn command_of(words: &[String]) -> Option<Command<'_>>
     ensures { option_map command_view result ≡ command_of_words (map string_bytes words.now) }
 {
     match words {
-        [word, file] => alone(word.as_str(), file.as_str()),
-        [word, first, second] => named(word.as_str(), first.as_str(), second.as_str()),
-        [word, first, second, third] => answered(
+        [word, file] => on_one(word.as_str(), file.as_str()),
+        [word, first, second] => on_two(word.as_str(), first.as_str(), second.as_str()),
+        [word, first, second, third] => on_three(
             word.as_str(),
             first.as_str(),
             second.as_str(),
             third.as_str(),
+        ),
+        [word, first, second, third, fourth] => on_four(
+            word.as_str(),
+            first.as_str(),
+            second.as_str(),
+            third.as_str(),
+            fourth.as_str(),
         ),
         _ => None,
     }
 }
 
 /// The command of that name on one file.
-fn alone<'a>(word: &str, file: &'a str) -> Option<Command<'a>>
+fn on_one<'a>(word: &str, file: &'a str) -> Option<Command<'a>>
     ensures { option_map command_view result ≡ command_of_words (word.now ∷ file.now ∷ []) }
 {
     if !is_file_word(file) {
@@ -70,7 +84,7 @@ fn alone<'a>(word: &str, file: &'a str) -> Option<Command<'a>>
 }
 
 /// The command of that name on two files.
-fn named<'a>(word: &str, first: &'a str, second: &'a str) -> Option<Command<'a>>
+fn on_two<'a>(word: &str, first: &'a str, second: &'a str) -> Option<Command<'a>>
     ensures { option_map command_view result ≡ command_of_words (word.now ∷ first.now ∷ second.now ∷ []) }
 {
     if !is_file_word(first) || !is_file_word(second) {
@@ -91,7 +105,7 @@ fn named<'a>(word: &str, first: &'a str, second: &'a str) -> Option<Command<'a>>
 }
 
 /// The command of that name on three files.
-fn answered<'a>(word: &str, first: &'a str, second: &'a str, third: &'a str) -> Option<Command<'a>>
+fn on_three<'a>(word: &str, first: &'a str, second: &'a str, third: &'a str) -> Option<Command<'a>>
     ensures { option_map command_view result ≡ command_of_words (word.now ∷ first.now ∷ second.now ∷ third.now ∷ []) }
 {
     if !is_file_word(first) || !is_file_word(second) || !is_file_word(third) {
@@ -102,6 +116,40 @@ fn answered<'a>(word: &str, first: &'a str, second: &'a str, third: &'a str) -> 
             bundle: first,
             request: second,
             answers: Some(third),
+        }),
+        "impact" => Some(Command::Impact {
+            old: first,
+            new: second,
+            log: third,
+            answers: None,
+        }),
+        _ => None,
+    }
+}
+
+/// The command of that name on four files.
+fn on_four<'a>(
+    word: &str,
+    first: &'a str,
+    second: &'a str,
+    third: &'a str,
+    fourth: &'a str,
+) -> Option<Command<'a>>
+    ensures { option_map command_view result ≡ command_of_words (word.now ∷ first.now ∷ second.now ∷ third.now ∷ fourth.now ∷ []) }
+{
+    if !is_file_word(first)
+        || !is_file_word(second)
+        || !is_file_word(third)
+        || !is_file_word(fourth)
+    {
+        return None;
+    }
+    match word {
+        "impact" => Some(Command::Impact {
+            old: first,
+            new: second,
+            log: third,
+            answers: Some(fourth),
         }),
         _ => None,
     }

@@ -4,9 +4,12 @@
 mod answer;
 mod command;
 mod decimal;
+mod impact_report;
+mod impact_text;
 mod keys_text;
 mod named_files;
 mod refusal;
+mod replaying;
 mod report;
 mod reports;
 mod review_text;

@@ -103,6 +103,8 @@ pub(crate) fn read_three<F: Files>(
 ) -> Result<ThreeFiles, Ended>
     ensures bytes { IfOk result (λ three. AreRead (F.tells files.old) ((first.entry.role, first.entry.name.now) ∷ (second.entry.role, second.entry.name.now) ∷ (third.entry.role, third.entry.name.now) ∷ []) (three.first.items ∷ three.second.items ∷ three.third.items ∷ [])) }
     ensures ended { IfErr result (EndsAt (F.tells files.old) (F.sure files.old) (Rose (F.faults files.old) (F.faults files.new)) (Rose (F.long_reads files.old) (F.long_reads files.new)) ((first.entry.role, first.entry.name.now) ∷ (second.entry.role, second.entry.name.now) ∷ (third.entry.role, third.entry.name.now) ∷ [])) }
+    ensures faults { F.faults files.old ≤ F.faults files.new }
+    ensures long_reads { F.long_reads files.old ≤ F.long_reads files.new }
 {
     let bytes = read_file(alloc, files, first)?;
     match read_two(alloc, files, second, third) {
@@ -110,6 +112,39 @@ pub(crate) fn read_three<F: Files>(
             first: bytes,
             second: rest.first,
             third: rest.second,
+        }),
+        Err(ended) => Err(ended),
+    }
+}
+
+/// The bytes of four files, in the order in which they were read.
+#[derive(Drop)]
+pub(crate) struct FourFiles {
+    pub first: Vec<u8>,
+    pub second: Vec<u8>,
+    pub third: Vec<u8>,
+    pub fourth: Vec<u8>,
+}
+
+/// The bytes of four files, each before the next.
+pub(crate) fn read_four<F: Files>(
+    alloc: Global,
+    files: &mut F,
+    first: NamedRole<'_>,
+    second: NamedRole<'_>,
+    third: NamedRole<'_>,
+    fourth: NamedRole<'_>,
+) -> Result<FourFiles, Ended>
+    ensures bytes { IfOk result (λ four. AreRead (F.tells files.old) ((first.entry.role, first.entry.name.now) ∷ (second.entry.role, second.entry.name.now) ∷ (third.entry.role, third.entry.name.now) ∷ (fourth.entry.role, fourth.entry.name.now) ∷ []) (four.first.items ∷ four.second.items ∷ four.third.items ∷ four.fourth.items ∷ [])) }
+    ensures ended { IfErr result (EndsAt (F.tells files.old) (F.sure files.old) (Rose (F.faults files.old) (F.faults files.new)) (Rose (F.long_reads files.old) (F.long_reads files.new)) ((first.entry.role, first.entry.name.now) ∷ (second.entry.role, second.entry.name.now) ∷ (third.entry.role, third.entry.name.now) ∷ (fourth.entry.role, fourth.entry.name.now) ∷ [])) }
+{
+    let bytes = read_file(alloc, files, first)?;
+    match read_three(alloc, files, second, third, fourth) {
+        Ok(rest) => Ok(FourFiles {
+            first: bytes,
+            second: rest.first,
+            third: rest.second,
+            fourth: rest.third,
         }),
         Err(ended) => Err(ended),
     }

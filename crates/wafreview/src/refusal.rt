@@ -2,8 +2,8 @@
 
 ghost use Rattle.std.specs.Prelude.{◌≡◌, ◌≢◌, ◌++◌, OnOk, IfOk};
 ghost use Rattle.waf_model.specs.declared.read_fault.ReadFault.TheVariants as faults;
-ghost use Rattle.wafreview.specs.Due.{IsRefused};
-ghost use Rattle.wafreview.specs.Texts.{fault_text, role_name, refused_text};
+ghost use Rattle.wafreview.specs.Refusal.{IsLineRefused, IsRefused};
+ghost use Rattle.wafreview.specs.Texts.{fault_text, role_name, refused_line_text, refused_text};
 
 use crate::decimal::push_decimal;
 use crate::report::Report;
@@ -25,6 +25,16 @@ pub(crate) fn refused(alloc: Global, role: Role, fault: &ReadFault) -> Result<Re
     })
 }
 
+/// The report of a log whose line of that number has a fault; want of memory is no fault of the line.
+pub(crate) fn refused_at(alloc: Global, number: u64, fault: &ReadFault) -> Result<Report, Memory>
+    ensures { IfOk result (λ report. IsLineRefused number fault.now report.code report.text) }
+{
+    Ok(Report {
+        code: 3,
+        text: refused_line_at(alloc, number, fault)?,
+    })
+}
+
 /// The report of what can't be done yet.
 pub(crate) fn not_built(alloc: Global, role: Role, path: Text) -> Result<Report, Memory>
     ensures { IfOk result (λ report. IsRefused role (faults.NotBuilt path) report.code report.text) }
@@ -40,6 +50,19 @@ fn refused_line(alloc: Global, role: Role, fault: &ReadFault) -> Result<Text, Me
     let mut text = Text::new(alloc);
     text.push(b"refused ")?;
     text.push(role_word(role).as_bytes())?;
+    text.push(b" ")?;
+    push_fault(alloc, &mut text, fault)?;
+    text.push(b"\n")?;
+    Ok(text)
+}
+
+/// The line of a log's line with a fault.
+fn refused_line_at(alloc: Global, number: u64, fault: &ReadFault) -> Result<Text, Memory>
+    ensures { IfOk result (λ text. text ≡ refused_line_text number fault.now) }
+{
+    let mut text = Text::new(alloc);
+    text.push(b"refused log:")?;
+    text.push_number(alloc, number)?;
     text.push(b" ")?;
     push_fault(alloc, &mut text, fault)?;
     text.push(b"\n")?;

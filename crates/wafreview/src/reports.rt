@@ -29,7 +29,7 @@ use waf_model::{Answers, Bundle, Items, Memory, ReadFault, Request, Text};
 use wcu_count::capacity;
 
 /// No answer to any question.
-fn none_answered(alloc: Global) -> Answers
+pub(crate) fn none_answered(alloc: Global) -> Answers
     ensures { result ≡ no_answers }
 {
     Answers {
@@ -40,7 +40,7 @@ fn none_answered(alloc: Global) -> Answers
 }
 
 /// The report of work that is done.
-fn done(text: Text) -> Report
+pub(crate) fn done(text: Text) -> Report
     ensures code { result.code ≡ 0 }
     ensures text { result.text ≡ text }
 {
@@ -48,7 +48,7 @@ fn done(text: Text) -> Report
 }
 
 /// What the answers are read as, none where no file of answers is named.
-fn given_answers(alloc: Global, answers: Option<&[u8]>) -> Result<Answers, ReadFault>
+pub(crate) fn given_answers(alloc: Global, answers: Option<&[u8]>) -> Result<Answers, ReadFault>
     ensures { Gives read_faults.Memory (λ answers. answers) result (given_reading (option_map (λ bytes. bytes.now) answers.entry)) }
 {
     match answers {

@@ -7,7 +7,7 @@ ghost use Rattle.wafreview.specs.ReviewText.{review_text};
 ghost use Rattle.wafreview.specs.DifferentParts.{old_text, decisions_text, up_to_request};
 
 use crate::decimal::push_decimal;
-use acl_eval::decision_word;
+use acl_eval::write_decision;
 use answer_book::write_answers;
 use parting_build::{Parting, Review};
 use request_parts::write_request;
@@ -36,31 +36,25 @@ fn push_undecided(alloc: Global, text: &mut Text, made: u32) -> Result<(), Memor
     Ok(())
 }
 
-fn push_decision(text: &mut Text, decision: Decision) -> Result<(), Memory>
-    ensures { OnOk result (text.new ≡ text.old ++ decision_name decision) }
-{
-    text.push(decision_word(decision).as_bytes())
-}
-
 /// Writes the first three lines of DIFFERENT.
-fn push_decisions(text: &mut Text, parting: &Parting) -> Result<(), Memory>
+fn push_decisions(alloc: Global, text: &mut Text, parting: &Parting) -> Result<(), Memory>
     ensures { OnOk result (text.new ≡ text.old ++ decisions_text parting.now.old parting.now.new) }
 {
-    push_old(text, parting.old)?;
+    push_old(alloc, text, parting.old)?;
     text.push(b"\n")?;
     text.push(b"new ")?;
-    push_decision(text, parting.new)?;
+    write_decision(alloc, text, parting.new)?;
     text.push(b"\n")?;
     Ok(())
 }
 
 /// Writes DIFFERENT and the old decision.
-fn push_old(text: &mut Text, old: Decision) -> Result<(), Memory>
+fn push_old(alloc: Global, text: &mut Text, old: Decision) -> Result<(), Memory>
     ensures { OnOk result (text.new ≡ text.old ++ old_text old) }
 {
     text.push(b"review DIFFERENT\n")?;
     text.push(b"old ")?;
-    push_decision(text, old)?;
+    write_decision(alloc, text, old)?;
     Ok(())
 }
 
@@ -68,7 +62,7 @@ fn push_old(text: &mut Text, old: Decision) -> Result<(), Memory>
 fn push_to_request(alloc: Global, text: &mut Text, parting: &Parting) -> Result<(), Memory>
     ensures { OnOk result (text.new ≡ text.old ++ up_to_request parting.now.old parting.now.new parting.now.request) }
 {
-    push_decisions(text, parting)?;
+    push_decisions(alloc, text, parting)?;
     text.push(b"request ")?;
     text.push(write_request(alloc, &parting.request)?.bytes())?;
     text.push(b"\n")?;

@@ -11,6 +11,7 @@ pub enum Role {
     Answers,
     Old,
     New,
+    Log,
 }
 
 /// The role's name, as it is printed.
@@ -23,5 +24,6 @@ pub(crate) fn role_word(role: Role) -> &'static str
         Role::Answers => "answers",
         Role::Old => "old",
         Role::New => "new",
+        Role::Log => "log",
     }
 }

@@ -15,6 +15,7 @@ ghost use Rattle.wafreview.specs.CommandView.{command_view};
 use crate::answer::Answer;
 use crate::command::{Command, command_of};
 use crate::named_files::{Ended, NamedRole, ThreeFiles, TwoFiles, read_one, read_three, read_two};
+use crate::replaying::{Compared, impact_named};
 use crate::report::Report;
 use crate::reports::{capacity_report, evaluation_report, keys_report, review_report};
 use crate::role::Role;
@@ -58,11 +59,17 @@ fn answer_of<F: Files>(alloc: Global, command: Command<'_>, files: &mut F) -> An
         Command::Capacity { bundle } => capacity_file(alloc, files, bundle),
         Command::Keys { bundle } => keys_file(alloc, files, bundle),
         Command::Review { old, new } => review_files(alloc, files, old, new),
+        Command::Impact {
+            old,
+            new,
+            log,
+            answers,
+        } => impact_named(alloc, files, Compared { old, new, log }, answers),
     }
 }
 
 /// A report as an answer.
-fn done(report: Report) -> Answer
+pub(crate) fn done(report: Report) -> Answer
     ensures { result ≡ answers.Done report.code report.text }
 {
     let Report { code, text } = report;
@@ -125,7 +132,7 @@ fn review_answer(alloc: Global, read: &TwoFiles) -> Answer
 }
 
 /// The answer where the reading of files ended early.
-fn answer_at(ended: Ended) -> Answer
+pub(crate) fn answer_at(ended: Ended) -> Answer
     ensures { result ≡ ended_answer ended }
 {
     match ended {

@@ -1,6 +1,7 @@
 mod answering;
 mod bundles;
 mod evaluations;
+mod impact;
 mod keys;
 mod printing;
 mod refusing;
@@ -147,7 +148,7 @@ fn the_first_rule_that_matches_decides(rt: HostRuntime) -> Result<(), Fail> {
         (
             bundle(alloc, &admin, "")?,
             "/admin",
-            "0 decision BLOCK\nrule 0 a\ncapacity 2\n",
+            "0 decision BLOCK 403\nrule 0 a\ncapacity 2\n",
         ),
         (
             bundle(alloc, &admin, "")?,
@@ -157,12 +158,12 @@ fn the_first_rule_that_matches_decides(rt: HostRuntime) -> Result<(), Fail> {
         (
             bundle(alloc, &both, "")?,
             "/x",
-            "0 decision BLOCK\nrule 0 a\ncapacity 4\n",
+            "0 decision BLOCK 403\nrule 0 a\ncapacity 4\n",
         ),
         (
             bundle(alloc, &admin, ",\"RuleLabels\":[]")?,
             "/admin",
-            "0 decision BLOCK\nrule 0 a\ncapacity 2\n",
+            "0 decision BLOCK 403\nrule 0 a\ncapacity 2\n",
         ),
     ];
     for (bundle, uri, wanted) in &cases {
@@ -309,8 +310,8 @@ fn the_first_fault_is_reported_alone(rt: HostRuntime) -> Result<(), Fail> {
 fn other_words_are_usage(rt: HostRuntime) -> Result<(), Fail> {
     let alloc = rt.alloc();
     let usage =
-        "2 usage: wafreview evaluate BUNDLE REQUEST [ANSWERS] | capacity BUNDLE | keys BUNDLE | review OLD NEW [--nodes N] | generate K\n";
-    let cases: [&[&str]; 18] = [
+        "2 usage: wafreview evaluate BUNDLE REQUEST [ANSWERS] | capacity BUNDLE | keys BUNDLE | review OLD NEW [--nodes N] | generate K | impact OLD NEW LOG [ANSWERS]\n";
+    let cases: [&[&str]; 22] = [
         &[],
         &["evaluate"],
         &["evaluate", "one"],
@@ -329,6 +330,10 @@ fn other_words_are_usage(rt: HostRuntime) -> Result<(), Fail> {
         &["evaluate", "one", "two", "three", "four"],
         &["review", "one", "two", "three"],
         &["Evaluate", "one", "two"],
+        &["impact", "one", "two"],
+        &["impact", "one", "two", "-three"],
+        &["impact", "one", "two", "three", ""],
+        &["impact", "one", "two", "three", "four", "five"],
     ];
     for line in cases {
         let text = printed(alloc, line, NO_RULES, REQUEST, &[])?;
@@ -382,7 +387,7 @@ fn revisions_are_equal_or_a_request_parts_them(rt: HostRuntime) -> Result<(), Fa
     ];
     let none = String::from_str(alloc, NO_RULES)?;
     let different =
-        "1 review DIFFERENT\nold BLOCK\nnew ALLOW\nrequest {\"args\":\"\",\"body\":\"\",\"clientIp\":\"0.0.0.0\",\"headers\":[],\"httpMethod\":\"GET\",\"uri\":\"/x\"}\nanswers {\"Groups\":[],\"Statements\":[],\"Tokens\":[]}\n";
+        "1 review DIFFERENT\nold BLOCK 403\nnew ALLOW\nrequest {\"args\":\"\",\"body\":\"\",\"clientIp\":\"0.0.0.0\",\"headers\":[],\"httpMethod\":\"GET\",\"uri\":\"/x\"}\nanswers {\"Groups\":[],\"Statements\":[],\"Tokens\":[]}\n";
     let cases = [
         (&none, &none, "0 review EQUAL\n"),
         (&bundle(alloc, &x, "")?, &none, different),
@@ -428,7 +433,7 @@ fn a_printed_request_gives_the_printed_decisions(rt: HostRuntime) -> Result<(), 
     )?;
     let mut lines = review.as_str().lines();
     assert_eq!(rt; lines.next(), Some("1 review DIFFERENT"));
-    assert_eq!(rt; lines.next(), Some("old BLOCK"));
+    assert_eq!(rt; lines.next(), Some("old BLOCK 403"));
     assert_eq!(rt; lines.next(), Some("new ALLOW"));
     let request = lines
         .next()
@@ -436,7 +441,7 @@ fn a_printed_request_gives_the_printed_decisions(rt: HostRuntime) -> Result<(), 
         .strip_prefix("request ")
         .ok_or("a request")?;
     for (bundle, wanted) in [
-        (old.as_str(), "0 decision BLOCK\nrule 0 a\ncapacity 2\n"),
+        (old.as_str(), "0 decision BLOCK 403\nrule 0 a\ncapacity 2\n"),
         (NO_RULES, "0 decision ALLOW\nrule default\ncapacity 0\n"),
     ] {
         let text = printed(alloc, &["evaluate", "one", "two"], bundle, request, &[])?;
@@ -480,7 +485,7 @@ fn a_file_past_the_greatest_length_is_too_long(rt: HostRuntime) -> Result<(), Fa
         faults: 0,
         long: 0,
     };
-    let cases: [(&[&str], &[u8]); 8] = [
+    let cases: [(&[&str], &[u8]); 11] = [
         (&["evaluate", "long", "two"], b"too long bundle\n"),
         (&["evaluate", "one", "long", "long"], b"too long request\n"),
         (&["evaluate", "one", "two", "long"], b"too long answers\n"),
@@ -489,6 +494,12 @@ fn a_file_past_the_greatest_length_is_too_long(rt: HostRuntime) -> Result<(), Fa
         (&["keys", "long"], b"too long bundle\n"),
         (&["review", "long", "two"], b"too long old\n"),
         (&["review", "two", "long"], b"too long new\n"),
+        (&["impact", "one", "one", "long"], b"too long log\n"),
+        (&["impact", "one", "long", "long"], b"too long new\n"),
+        (
+            &["impact", "one", "one", "two", "long"],
+            b"too long answers\n",
+        ),
     ];
     for (line, wanted) in cases {
         let mut out = MemSink::new(alloc, 4096, 4096, Items::new(alloc))?;

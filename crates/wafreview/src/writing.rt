@@ -14,7 +14,7 @@ use crate::status::Status;
 use waf_base::{Failed, Sink};
 
 const USAGE: &str =
-    "usage: wafreview evaluate BUNDLE REQUEST [ANSWERS] | capacity BUNDLE | keys BUNDLE | review OLD NEW [--nodes N] | generate K\n";
+    "usage: wafreview evaluate BUNDLE REQUEST [ANSWERS] | capacity BUNDLE | keys BUNDLE | review OLD NEW [--nodes N] | generate K | impact OLD NEW LOG [ANSWERS]\n";
 
 /// The line for a file that was not read. It is held, so that it takes no memory.
 fn unread_line(role: Role) -> &'static str
@@ -26,6 +26,7 @@ fn unread_line(role: Role) -> &'static str
         Role::Answers => "read fault answers\n",
         Role::Old => "read fault old\n",
         Role::New => "read fault new\n",
+        Role::Log => "read fault log\n",
     }
 }
 
@@ -39,6 +40,7 @@ fn too_long_line(role: Role) -> &'static str
         Role::Answers => "too long answers\n",
         Role::Old => "too long old\n",
         Role::New => "too long new\n",
+        Role::Log => "too long log\n",
     }
 }
 

@@ -114,7 +114,7 @@ fn check_answers(
 #[test]
 fn the_first_answer_of_a_statement_counts(rt: HostRuntime) -> Result<(), Fail> {
     let allow = "0 decision ALLOW\nrule default\ncapacity 1\n";
-    let block = "0 decision BLOCK\nrule 0 a\ncapacity 1\n";
+    let block = "0 decision BLOCK 403\nrule 0 a\ncapacity 1\n";
     let rules =
         "{'Name':'a','Priority':0,'Statement':{'GeoMatchStatement':{}},'Action':{'Block':{}}}";
     let rows = [
@@ -159,7 +159,7 @@ fn the_first_answer_of_a_group_counts(rt: HostRuntime) -> Result<(), Fail> {
         ),
         (
             "{'Groups':[{'Key':'{\\'ManagedRuleGroupStatement\\':{\\'Name\\':\\'n\\',\\'VendorName\\':\\'v\\'}}','Verdict':'BLOCK'},{'Key':'{\\'ManagedRuleGroupStatement\\':{\\'Name\\':\\'n\\',\\'VendorName\\':\\'v\\'}}','Verdict':'NONE','Labels':['awswaf:managed:a']}]}",
-            "0 decision BLOCK\nrule 0 m\ncapacity 0 unknown 1\n",
+            "0 decision BLOCK 403\nrule 0 m\ncapacity 0 unknown 1\n",
         ),
         (
             "{'Groups':[{'Key':'{\\'ManagedRuleGroupStatement\\':{\\'Name\\':\\'N\\',\\'VendorName\\':\\'v\\'}}','Verdict':'BLOCK','Labels':['awswaf:managed:a']}]}",
@@ -215,7 +215,7 @@ fn the_realistic_bundle_is_evaluated_under_answers(rt: HostRuntime) -> Result<()
         &[],
     )?;
     let wanted =
-        "0 decision BLOCK\nrule 4 admin\nlabel awswaf:111122223333:webacl:shop:admin\nlabel awswaf:managed:aws:core-rule-set:NoUserAgent_Header\ncapacity 728\n";
+        "0 decision BLOCK 403\nrule 4 admin\nlabel awswaf:111122223333:webacl:shop:admin\nlabel awswaf:managed:aws:core-rule-set:NoUserAgent_Header\ncapacity 728\n";
     assert_eq!(rt; said.as_str(), wanted);
     Ok(())
 }

@@ -137,7 +137,7 @@ fn check_cases(alloc: Global, rt: &impl Abort, cases: &[Case]) -> Result<(), Fai
         let rules = rule_with(alloc, statement)?;
         let said = evaluated(alloc, rules.as_str(), more, request, answers)?;
         let front = if *holds {
-            "0 decision BLOCK\nrule 0 a\ncapacity "
+            "0 decision BLOCK 403\nrule 0 a\ncapacity "
         } else {
             "0 decision ALLOW\nrule default\ncapacity "
         };
@@ -154,4 +154,5 @@ mod addresses;
 mod labels;
 mod limits;
 mod outcomes;
+mod responses;
 mod statements;

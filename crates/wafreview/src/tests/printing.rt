@@ -69,7 +69,7 @@ fn every_member_of_a_request_and_of_answers_is_printed(rt: HostRuntime) -> Resul
     };
     let printed = write_review(alloc, &Review::Different(parting))?;
     let wanted =
-        "review DIFFERENT\nold BLOCK\nnew CAPTCHA\nrequest {\"args\":\"x=\\b\\t\\n\\f\\r\\u001f\",\"body\":\"YWI=\",\"clientIp\":\"2001:db8:0:0:0:0:0:1\",\"headers\":[{\"name\":\"a\",\"value\":\"v\"},{\"name\":\"b\",\"valueBase64\":\"/w==\"}],\"httpMethod\":\"POST\",\"uri\":\"/\\\"\\\\\"}\nanswers {\"Groups\":[{\"Key\":\"g\",\"Labels\":[\"awswaf:managed:x\"],\"Verdict\":\"BLOCK\"}],\"Statements\":[{\"Key\":\"s\",\"Match\":true}],\"Tokens\":[{\"ImmunityTime\":300,\"Kind\":\"CAPTCHA\",\"Valid\":false}]}\n";
+        "review DIFFERENT\nold BLOCK 403\nnew CAPTCHA\nrequest {\"args\":\"x=\\b\\t\\n\\f\\r\\u001f\",\"body\":\"YWI=\",\"clientIp\":\"2001:db8:0:0:0:0:0:1\",\"headers\":[{\"name\":\"a\",\"value\":\"v\"},{\"name\":\"b\",\"valueBase64\":\"/w==\"}],\"httpMethod\":\"POST\",\"uri\":\"/\\\"\\\\\"}\nanswers {\"Groups\":[{\"Key\":\"g\",\"Labels\":[\"awswaf:managed:x\"],\"Verdict\":\"BLOCK\"}],\"Statements\":[{\"Key\":\"s\",\"Match\":true}],\"Tokens\":[{\"ImmunityTime\":300,\"Kind\":\"CAPTCHA\",\"Valid\":false}]}\n";
     assert_eq!(rt; printed.bytes(), wanted.as_bytes());
     Ok(())
 }

@@ -16,7 +16,7 @@ const IN_ACL: [Row; 9] = [
         "",
         "",
         "{}",
-        "0 decision BLOCK\nrule 0 a\ncapacity 1\n",
+        "0 decision BLOCK 403\nrule 0 a\ncapacity 1\n",
     ),
     (
         "{'Name':'a','Priority':0,'Statement':!,'Action':{'Block':{}}}",
@@ -30,7 +30,7 @@ const IN_ACL: [Row; 9] = [
         "",
         "",
         "{}",
-        "0 decision BLOCK\nrule 1 b\ncapacity 2\n",
+        "0 decision BLOCK 403\nrule 1 b\ncapacity 2\n",
     ),
     (
         "{'Name':'c','Priority':0,'Statement':@,'Action':{'Captcha':{}}}",
@@ -111,7 +111,7 @@ const IN_GROUP: [Row; 12] = [
         BLOCKS,
         "",
         "{}",
-        "0 decision BLOCK\nrule 0 g / 0 a\nlabel awswaf:x:one\ncapacity 10\n",
+        "0 decision BLOCK 403\nrule 0 g / 0 a\nlabel awswaf:x:one\ncapacity 10\n",
     ),
     (
         COUNTS,
@@ -232,7 +232,7 @@ const MANAGED_ROWS: [Row; 9] = [
         FIVE,
         "",
         SAYS_BLOCK,
-        "0 decision BLOCK\nrule 0 m\nlabel awswaf:managed:a\ncapacity 5\n",
+        "0 decision BLOCK 403\nrule 0 m\nlabel awswaf:managed:a\ncapacity 5\n",
     ),
     (
         MANAGED_COUNTS,
@@ -246,7 +246,7 @@ const MANAGED_ROWS: [Row; 9] = [
         FIVE,
         "",
         SAYS_BLOCK,
-        "0 decision BLOCK\nrule 0 m\nlabel awswaf:managed:a\ncapacity 6\n",
+        "0 decision BLOCK 403\nrule 0 m\nlabel awswaf:managed:a\ncapacity 6\n",
     ),
     (
         MANAGED_OUTSIDE,

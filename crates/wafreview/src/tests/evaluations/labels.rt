@@ -9,14 +9,14 @@ const ROWS: [Row; 8] = [
         "",
         "",
         "{}",
-        "0 decision BLOCK\nrule 1 d\nlabel awswaf:111122223333:webacl:w:seen\ncapacity 2\n",
+        "0 decision BLOCK 403\nrule 1 d\nlabel awswaf:111122223333:webacl:w:seen\ncapacity 2\n",
     ),
     (
         "{'Name':'c','Priority':0,'Statement':@,'Action':{'Count':{}},'RuleLabels':[{'Name':'seen'}]},{'Name':'d','Priority':1,'Statement':{'LabelMatchStatement':{'Scope':'LABEL','Key':'awswaf:111122223333:webacl:w:seen'}},'Action':{'Block':{}}}",
         "",
         "",
         "{}",
-        "0 decision BLOCK\nrule 1 d\nlabel awswaf:111122223333:webacl:w:seen\ncapacity 2\n",
+        "0 decision BLOCK 403\nrule 1 d\nlabel awswaf:111122223333:webacl:w:seen\ncapacity 2\n",
     ),
     (
         "{'Name':'c','Priority':0,'Statement':@,'Action':{'Count':{}},'RuleLabels':[{'Name':'seen'}]},{'Name':'g','Priority':1,'Statement':{'RuleGroupReferenceStatement':{'ARN':'g'}},'OverrideAction':{'None':{}}}",
@@ -37,14 +37,14 @@ const ROWS: [Row; 8] = [
         "",
         "",
         "{}",
-        "0 decision BLOCK\nrule 1 d\nlabel awswaf:111122223333:webacl:w:end:a\nlabel awswaf:111122223333:webacl:w:end:b\ncapacity 2\n",
+        "0 decision BLOCK 403\nrule 1 d\nlabel awswaf:111122223333:webacl:w:end:a\nlabel awswaf:111122223333:webacl:w:end:b\ncapacity 2\n",
     ),
     (
         "{'Name':'c','Priority':0,'Statement':@,'Action':{'Count':{}},'RuleLabels':[{'Name':'a:b'}]},{'Name':'d','Priority':1,'Statement':{'LabelMatchStatement':{'Scope':'NAMESPACE','Key':'a'}},'Action':{'Block':{}}}",
         "",
         "",
         "{}",
-        "0 decision BLOCK\nrule 1 d\nlabel awswaf:111122223333:webacl:w:a:b\ncapacity 2\n",
+        "0 decision BLOCK 403\nrule 1 d\nlabel awswaf:111122223333:webacl:w:a:b\ncapacity 2\n",
     ),
     (
         "{'Name':'c','Priority':0,'Statement':@,'Action':{'Count':{}},'RuleLabels':[{'Name':'ab:b'}]},{'Name':'d','Priority':1,'Statement':{'LabelMatchStatement':{'Scope':'NAMESPACE','Key':'a:'}},'Action':{'Block':{}}}",
