@@ -1,31 +1,13 @@
 //! Evaluates a web ACL of AWS WAF on a recorded request, and reviews two revisions of one.
 #![tactic(auto)]
 
-mod answer;
-mod command;
-mod decimal;
-mod impact_report;
-mod impact_text;
-mod keys_text;
-mod named_files;
-mod refusal;
-mod replaying;
-mod report;
-mod reports;
-mod review_text;
-mod role;
-mod running;
-mod status;
 mod words;
-mod writing;
 
-use running::run;
-use status::Status;
 use std::io;
 use std::process::ExitCode;
 use waf_base::{RealFiles, StdSink};
+use wafreview_run::{Status, run, write_answer};
 use words::words;
-use writing::write_answer;
 
 /// Runs the words of the command line on the real files and the real output.
 fn run_words(rt: &HostRuntime) -> io::Result<Status> {
@@ -46,6 +28,3 @@ fn main(rt: HostRuntime) -> ExitCode {
         Err(_) => ExitCode::from(8),
     }
 }
-
-#[cfg(test)]
-mod tests;

@@ -2,11 +2,11 @@
 
 ghost use Rattle.std.specs.Prelude.{◌≡◌, ◌⊎◌, IfErr};
 ghost use Rattle.std.specs.IoError.{error_kind};
-ghost use Rattle.wafreview.specs.declared.answer.Answer.TheVariants as answers;
+ghost use Rattle.wafreview_run.specs.declared.answer.Answer.TheVariants as answers;
 
-use crate::answer::Answer;
 use std::io::ErrorKind;
 use std::{env, io};
+use wafreview_run::Answer;
 
 /// The answer where the words could not be had: words that are no UTF-8 are no command, and otherwise memory was wanting.
 fn without_words(error: &io::Error) -> Answer

@@ -1,8 +1,0 @@
-use Rattle.std.proofs.Common.{◌≡◌, ◌++◌, take}
-use Rattle.std.specs.List.{flat_map}
-use Rattle.wafreview.specs.KeysText.{group_line}
-use Rattle.wafreview.proofs.keys_text.push_groups.Given as goal
-
--- the lines of the keys so far are written
-abbrev pub invariant-loop-key : goal.invariant-loop-key
-invariant-loop-key l = l.text ≡ l.fn.text ++ flat_map group_line (take l.key-index l.keys)

@@ -1,0 +1,28 @@
+//! A run of the program: the words of a command line and files go in, one whole text and an exit status come out.
+#![tactic(auto)]
+
+mod answer;
+mod command;
+mod decimal;
+mod impact_report;
+mod impact_text;
+mod keys_text;
+mod named_files;
+mod refusal;
+mod replaying;
+mod report;
+mod reports;
+mod review_text;
+mod role;
+mod running;
+mod status;
+mod writing;
+
+pub use answer::Answer;
+pub use role::Role;
+pub use running::run;
+pub use status::Status;
+pub use writing::write_answer;
+
+#[cfg(test)]
+mod tests;

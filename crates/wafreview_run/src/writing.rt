@@ -1,0 +1,98 @@
+//! Writing an answer.
+
+ghost use Rattle.std.specs.Prelude.{◌≡◌, ◌≤◌, ◌++◌, ℕ, List, OnOk, OnErr};
+ghost use Rattle.waf_base.specs.Counts.{Rose};
+ghost use Rattle.waf_base.specs.Taken.{Appends};
+ghost use Rattle.wafreview_run.specs.Answer.{code_of as answer_code, text_of as answer_text};
+ghost use Rattle.wafreview_run.specs.Answered.{Written};
+ghost use Rattle.wafreview_run.specs.Fronts.{TookFront};
+ghost use Rattle.wafreview_run.specs.Texts.{unread_text, too_long_text};
+
+use crate::answer::Answer;
+use crate::role::Role;
+use crate::status::Status;
+use waf_base::{Failed, Sink};
+
+const USAGE: &str =
+    "usage: wafreview evaluate BUNDLE REQUEST [ANSWERS] | capacity BUNDLE | keys BUNDLE | review OLD NEW [--nodes N] | generate K | impact OLD NEW LOG [ANSWERS]\n";
+
+/// The line for a file that was not read. It is held, so that it takes no memory.
+fn unread_line(role: Role) -> &'static str
+    ensures { result.now ≡ unread_text role }
+{
+    match role {
+        Role::Bundle => "read fault bundle\n",
+        Role::Request => "read fault request\n",
+        Role::Answers => "read fault answers\n",
+        Role::Old => "read fault old\n",
+        Role::New => "read fault new\n",
+        Role::Log => "read fault log\n",
+    }
+}
+
+/// The line for a file that is too long. It is held, so that it takes no memory.
+fn too_long_line(role: Role) -> &'static str
+    ensures { result.now ≡ too_long_text role }
+{
+    match role {
+        Role::Bundle => "too long bundle\n",
+        Role::Request => "too long request\n",
+        Role::Answers => "too long answers\n",
+        Role::Old => "too long old\n",
+        Role::New => "too long new\n",
+        Role::Log => "too long log\n",
+    }
+}
+
+/// The whole text of an answer.
+fn text_of(answer: &Answer) -> &[u8]
+    ensures { result.now ≡ answer_text answer.now }
+{
+    match answer {
+        Answer::Usage => USAGE.as_bytes(),
+        Answer::Unread(role) => unread_line(*role).as_bytes(),
+        Answer::TooLong(role) => too_long_line(*role).as_bytes(),
+        Answer::Done { code: _, text } => text.bytes(),
+        Answer::NoMemory => b"memory\n",
+    }
+}
+
+/// The status of an answer whose text was written whole.
+fn code_of(answer: &Answer) -> u8
+    ensures { result ≡ answer_code answer.now }
+{
+    match answer {
+        Answer::Usage => 2,
+        Answer::Unread(_) => 6,
+        Answer::TooLong(_) => 9,
+        Answer::Done { code, text: _ } => *code,
+        Answer::NoMemory => 8,
+    }
+}
+
+/// Writes the whole text, piece by piece, and no empty piece; on a failure a front of it was taken.
+fn write_all<O: Sink>(out: &mut O, text: &[u8]) -> Result<(), Failed>
+    ensures whole { OnOk result (Appends (O.taken out.old) (O.taken out.new) text.now) }
+    ensures front { OnErr result (TookFront (O.taken out.old) (O.taken out.new) text.now) }
+    ensures failed { OnErr result (Rose (O.faults out.old) (O.faults out.new)) }
+{
+    let mut rest = text;
+    while !rest.is_empty() {
+        let count = out.write(rest)?;
+        let (_, left) = rest.split_at(count);
+        rest = left;
+    }
+    Ok(())
+}
+
+/// Writes the text of the answer, and says how the run ends.
+pub fn write_answer<O: Sink>(answer: &Answer, out: &mut O) -> Status
+    ensures { Written (O.taken out.old) (O.taken out.new) (Rose (O.faults out.old) (O.faults out.new)) (answer_code answer.now) (answer_text answer.now) result.code }
+{
+    match write_all(out, text_of(answer)) {
+        Ok(()) => Status {
+            code: code_of(answer),
+        },
+        Err(Failed) => Status { code: 7 },
+    }
+}
