@@ -30,7 +30,7 @@ use waf_base::{Files, Memory, Sink};
 pub fn run<F: Files, O: Sink>(alloc: Global, words: &[String], files: &mut F, out: &mut O) -> Status
     ensures answered { IsAnswered
         (HasCause (F.tells files.old) (F.sure files.old) (Rose (F.faults files.old) (F.faults files.new)) (Rose (F.long_reads files.old) (F.long_reads files.new)) (command_of_words (map string_bytes words.now)))
-        (Written (O.taken out.old) (O.taken out.new) (Rose (O.faults out.old) (O.faults out.new))) result.code }
+        (Written (O.taken out.old) (O.taken out.new) (O.faults out.old) (O.faults out.new)) result.code }
 {
     let answer = answer_to(alloc, words, files);
     write_answer(&answer, out)

@@ -70,9 +70,11 @@ fn code_of(answer: &Answer) -> u8
     }
 }
 
-/// Writes the whole text, piece by piece, and no empty piece; on a failure a front of it was taken.
+/// Writes the whole text, piece by piece, and no empty piece; on the first failure a front of it was taken, and nothing more
+/// is written.
 fn write_all<O: Sink>(out: &mut O, text: &[u8]) -> Result<(), Failed>
     ensures whole { OnOk result (Appends (O.taken out.old) (O.taken out.new) text.now) }
+    ensures level { OnOk result (O.faults out.new ≡ O.faults out.old) }
     ensures front { OnErr result (TookFront (O.taken out.old) (O.taken out.new) text.now) }
     ensures failed { OnErr result (Rose (O.faults out.old) (O.faults out.new)) }
 {
@@ -87,7 +89,7 @@ fn write_all<O: Sink>(out: &mut O, text: &[u8]) -> Result<(), Failed>
 
 /// Writes the text of the answer, and says how the run ends.
 pub fn write_answer<O: Sink>(answer: &Answer, out: &mut O) -> Status
-    ensures { Written (O.taken out.old) (O.taken out.new) (Rose (O.faults out.old) (O.faults out.new)) (answer_code answer.now) (answer_text answer.now) result.code }
+    ensures { Written (O.taken out.old) (O.taken out.new) (O.faults out.old) (O.faults out.new) (answer_code answer.now) (answer_text answer.now) result.code }
 {
     match write_all(out, text_of(answer)) {
         Ok(()) => Status {

@@ -1,4 +1,4 @@
-use Rattle.std.proofs.Common.{◌++◌, take, arith}
+use Rattle.std.proofs.Common.{◌++◌, ◌∙◌, take}
 use Rattle.wafreview_run.proofs.TakenMore.{appended, cut_more}
 use Rattle.wafreview_run.proofs.writing.write_all.Goals as goal
 
@@ -9,5 +9,5 @@ loop-rest-preserved g c =
       so_far.0 ++ take c.in_ok-count.count c.loop-rest.rest.now,
       rw c.split_at.ensures.back (cut_more c.args.text.now so_far.0 c.loop-rest.rest.now c.in_ok-count.count so_far.1),
       appended _ _ _ so_far.0 _ so_far.2 wrote.taken,
-      omega (arith, wrote.faults, so_far.3),
+      wrote.level ∙ so_far.3,
     )
