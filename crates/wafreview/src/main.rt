@@ -1,6 +1,9 @@
 //! Evaluates a web ACL of AWS WAF on a recorded request, and reviews two revisions of one.
 #![tactic(auto)]
 
+ghost use Rattle.std.specs.Prelude.{◌≡◌, IfOk, OnErr};
+ghost use Rattle.std.specs.Process.{exit_status};
+
 mod words;
 
 use std::io;
@@ -21,10 +24,18 @@ fn run_words(rt: &HostRuntime) -> io::Result<Status> {
     }
 }
 
-/// Ends with the run's status; with 8 where the program could not even begin to run.
-fn main(rt: HostRuntime) -> ExitCode {
-    match run_words(&rt) {
+/// The exit code of a run: its status, or 8 where the program could not even begin to run.
+fn exit_code(run: io::Result<Status>) -> ExitCode
+    ensures ran { IfOk run (λ status. exit_status result ≡ status.code) }
+    ensures did_not_begin { OnErr run (exit_status result ≡ 8) }
+{
+    match run {
         Ok(status) => ExitCode::from(status.code),
         Err(_) => ExitCode::from(8),
     }
+}
+
+/// Ends with the exit code of the run.
+fn main(rt: HostRuntime) -> ExitCode {
+    exit_code(run_words(&rt))
 }
