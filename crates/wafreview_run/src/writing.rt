@@ -1,11 +1,11 @@
 //! Writing an answer.
 
-ghost use Rattle.std.specs.Prelude.{◌≡◌, ◌≤◌, ◌++◌, ℕ, List, OnOk, OnErr};
+ghost use Rattle.std.specs.Prelude.{◌≡◌, ◌<◌, length, IfOk, OnOk, OnErr};
 ghost use Rattle.waf_base.specs.Counts.{Rose};
 ghost use Rattle.waf_base.specs.Taken.{Appends};
 ghost use Rattle.wafreview_run.specs.Answer.{code_of as answer_code, text_of as answer_text};
 ghost use Rattle.wafreview_run.specs.Answered.{Written};
-ghost use Rattle.wafreview_run.specs.Fronts.{TookFront};
+ghost use Rattle.wafreview_run.specs.Fronts.{TookBefore, TookFront};
 ghost use Rattle.wafreview_run.specs.Texts.{unread_text, too_long_text};
 
 use crate::answer::Answer;
@@ -70,8 +70,22 @@ fn code_of(answer: &Answer) -> u8
     }
 }
 
-/// Writes the whole text, piece by piece, and no empty piece; on the first failure a front of it was taken, and nothing more
-/// is written.
+/// Hands the text to the sink once, and gives what is left of it. A write that failed isn't tried again.
+fn left_of<'a, O: Sink>(out: &mut O, text: &'a [u8]) -> Result<&'a [u8], Failed>
+    requires { 0 < length text.now }
+    ensures taken { IfOk result (λ left. TookBefore (O.taken out.old) (O.taken out.new) text.now left.now) }
+    ensures fewer { IfOk result (λ left. length left.now < length text.now) }
+    ensures level { OnOk result (O.faults out.new ≡ O.faults out.old) }
+    ensures kept { OnErr result (O.taken out.new ≡ O.taken out.old) }
+    ensures failed { OnErr result (Rose (O.faults out.old) (O.faults out.new)) }
+{
+    let count = out.write(text)?;
+    let (_, left) = text.split_at(count);
+    Ok(left)
+}
+
+/// Writes the whole text, piece by piece, and no empty piece; on the first failure a front of it was taken, and nothing
+/// more is written.
 fn write_all<O: Sink>(out: &mut O, text: &[u8]) -> Result<(), Failed>
     ensures whole { OnOk result (Appends (O.taken out.old) (O.taken out.new) text.now) }
     ensures level { OnOk result (O.faults out.new ≡ O.faults out.old) }
@@ -80,9 +94,7 @@ fn write_all<O: Sink>(out: &mut O, text: &[u8]) -> Result<(), Failed>
 {
     let mut rest = text;
     while !rest.is_empty() {
-        let count = out.write(rest)?;
-        let (_, left) = rest.split_at(count);
-        rest = left;
+        rest = left_of(out, rest)?;
     }
     Ok(())
 }
