@@ -3,3 +3,4 @@ pub mod Replays
 pub mod Reviewed
 pub mod DueAnswers
 pub mod LaterEnd
+pub mod WholeText

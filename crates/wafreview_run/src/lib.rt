@@ -7,6 +7,7 @@ mod decimal;
 mod impact_report;
 mod impact_text;
 mod keys_text;
+mod laws;
 mod named_files;
 mod refusal;
 mod replaying;
@@ -19,6 +20,7 @@ mod status;
 mod writing;
 
 pub use answer::Answer;
+pub use laws::written_where_the_count_stayed;
 pub use role::Role;
 pub use running::run;
 pub use status::Status;
