@@ -7,7 +7,7 @@ top="$(cd "$(dirname "${BASH_SOURCE[0]}")/.." && pwd)"
 . "$top/bench/traffic.sh"
 program="$top/crates/wafreview/out/wafreview"
 reader="$top/crates/evaluation_bench/out/evaluation_bench"
-[ -x "$program" ] || (cd "$top/crates/wafreview" && rt run </dev/null) >&2
+"$top/wafreview" capacity "$top/examples/first/bundle.json" >&2
 [ -x "$reader" ] || (cd "$top/crates/evaluation_bench" && rt run </dev/null) >&2
 work="$(mktemp -d)"
 trap 'rm -rf "$work"' EXIT
