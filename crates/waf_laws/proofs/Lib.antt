@@ -1,0 +1,13 @@
+pub mod AddressTruths
+pub mod AgreementLaws
+pub mod Among
+pub mod DecisionLaws
+pub mod HoldsTruths
+pub mod Matching
+pub mod OneOutcome
+pub mod OutcomeTruths
+pub mod PatternTruths
+pub mod PlaceLaws
+pub mod TestTruths
+pub mod Truths
+pub mod WithinLaws
