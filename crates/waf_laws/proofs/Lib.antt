@@ -2,6 +2,7 @@ pub mod AddressTruths
 pub mod AgreementLaws
 pub mod Among
 pub mod DecisionLaws
+pub mod EnderLaws
 pub mod HoldsTruths
 pub mod Matching
 pub mod OneOutcome

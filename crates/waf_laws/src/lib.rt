@@ -2,6 +2,7 @@
 #![tactic(auto)]
 
 mod decisions;
+mod enders;
 mod firing;
 mod labels;
 mod limits;
@@ -9,7 +10,8 @@ mod outcome;
 mod places;
 mod statements;
 
-pub use decisions::decisions_in_order;
+pub use decisions::{decisions_in_order, stands_before};
+pub use enders::enders_tell_steps;
 pub use firing::firing_is_decided;
 pub use labels::agreement_is_decided;
 pub use limits::{header_names_are_exact, nothing_is_oversized};
