@@ -1,6 +1,8 @@
 pub mod Canonical
+pub mod Counting
 pub mod Different
 pub mod Explores
+pub mod Flattens
 pub mod Grouping
 pub mod Marks
 pub mod Meets
@@ -9,6 +11,7 @@ pub mod Numbered
 pub mod Parting
 pub mod Redirects
 pub mod Renumbers
+pub mod Residuals
 pub mod Rows
 pub mod Runs
 pub mod Sourced

@@ -15,6 +15,7 @@ use Rattle.byte_automata.specs.Members.{AreDifferent}
 use Rattle.byte_automata.specs.Numbers.{HasNumber}
 use Rattle.byte_automata.specs.Meet.{IsReachablePair, next_pair, Grows, Counts, CountsOn, StopsBy}
 use Rattle.byte_automata.specs.Row.{target, CoversBytes}
+use Rattle.byte_automata.proofs.Counting.{at_least-weaker}
 use Rattle.byte_automata.proofs.Different.{different-none, at_least-listed, at_most-listed}
 use Rattle.byte_automata.proofs.Merges.{number-kept}
 use Rattle.byte_automata.proofs.Runs.{ends-append, ends-within}
@@ -196,3 +197,12 @@ module _ (left right : Automaton) (made_before made limit_before limit : ℕ) (p
 
     pub meeting-counted : made ≡ made_before + length states
     meeting-counted = omega (arith, m.counted, same_length)
+
+-- the pairs with another automaton, in which texts end as they do here, are the pairs
+pub pair-other : (left right right' : Automaton) → ((text : List ℕ) → ends right right.start text ≡ ends right' right'.start text) → (pair : StatePair) → IsReachablePair left right pair → IsReachablePair left right' pair
+pair-other left right right' same pair r = (r.0, r.1, sym (same r.0) ∙ r.2)
+
+pub stops-other : (left right right' : Automaton) → ((text : List ℕ) → ends right right.start text ≡ ends right' right'.start text) → (stop : Stop) (before after limit : ℕ)
+    → StopsBy (IsReachablePair left right) stop before after limit → StopsBy (IsReachablePair left right') stop before after limit
+stops-other left right right' same Full before after limit h = (h.0, at_least-weaker ◌≡◌ (IsReachablePair left right) (IsReachablePair left right') (limit - before + 1) (limit - before + 1) (omega arith) (pair-other left right right' same) h.1)
+stops-other left right right' same Memory before after limit h = at_least-weaker ◌≡◌ (IsReachablePair left right) (IsReachablePair left right') (after - before) (after - before) (omega arith) (pair-other left right right' same) h

@@ -1,6 +1,7 @@
 pub mod Automaton
 pub mod Classes
 pub mod FirstReach
+pub mod Key
 pub mod Least
 pub mod Meet
 pub mod Members
@@ -9,6 +10,8 @@ pub mod Places
 pub mod Row
 pub mod Shortest
 pub mod Sources
+pub mod Spending
 pub mod Splitting
+pub mod Texts
 pub mod Words
 pub use Rattle.sqlite_items.specs.formers

@@ -5,9 +5,13 @@ ghost use Rattle.std.specs.List.{All};
 
 use crate::edge::Edge;
 use crate::flip::flip_all;
+use crate::renumbered::push_state;
 use crate::row::target_of;
 use crate::state::State;
+use sqlite_items::Items;
+use std::alloc::Global;
 use std::marker::Model;
+use waf_base::Memory;
 
 /// A finished automaton over bytes, which contracts see as its start state and the list of its states. Each state has
 /// edges that cover all bytes and lead to states of the automaton.
@@ -91,6 +95,26 @@ impl Dfa {
             state = self.follow(state, *byte);
         }
         self.accepting(state)
+    }
+
+    /// The automaton of the texts that this one doesn't accept, as `complement` gives it, beside this one. It fails only
+    /// for want of memory.
+    pub fn complemented(&self, alloc: Global) -> Result<Dfa, Memory>
+        ensures language { IfOk result (λ others. (text : List ℕ) → accepts others text ≡ not (accepts self.now text)) }
+        ensures start { IfOk result (λ others. others.start ≡ self.now.start) }
+        ensures states { IfOk result (λ others. others.states ≡ map flipped self.now.states) }
+    {
+        let end = self.states();
+        let mut states = Vec::new(alloc);
+        'states: for state in 0..end {
+            let edges = Vec::from_slice(alloc, self.edges_of(state))?;
+            let flipped = State {
+                accepting: !self.accepting(state),
+                edges: Items::from_vec(edges),
+            };
+            push_state(&mut states, flipped)?;
+        }
+        Ok(Dfa::of(self.start(), states))
     }
 
     /// The automaton of the texts that this one doesn't accept: the same states and edges, where each state accepts
