@@ -1,4 +1,4 @@
-//! Nodes of decision graphs against truth tables, and the meter at its limit: what no clause says as an example.
+//! Tests of decision graphs at the limit of their meter.
 #![tactic(auto)]
 
 #[cfg(test)]

@@ -6,6 +6,3 @@ mod referred;
 
 pub use overriding::{effective, effective_action};
 pub use referred::referred_group;
-
-#[cfg(test)]
-mod tests;

@@ -7,8 +7,6 @@ mod merging;
 mod narrowing;
 mod range_spans;
 mod span;
-#[cfg(test)]
-mod tests;
 
 pub use cover::IpCover;
 pub use span::{Span4, Span6};

@@ -6,8 +6,6 @@ mod cutting;
 mod ipv4;
 mod ipv6;
 mod range;
-#[cfg(test)]
-mod tests;
 mod writing;
 
 pub use address::read_address;

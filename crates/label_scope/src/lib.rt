@@ -9,6 +9,3 @@ mod texts;
 pub use key_match::matches;
 pub use label_set::Labels;
 pub use qualified::qualify;
-
-#[cfg(test)]
-mod tests;

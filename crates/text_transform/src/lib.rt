@@ -13,6 +13,3 @@ mod spaces;
 
 pub use applied::{apply, apply_all};
 pub use laws::kept_next;
-
-#[cfg(test)]
-mod tests;

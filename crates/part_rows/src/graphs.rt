@@ -1,0 +1,169 @@
+//! Rows of decision graphs: formulas over six variables, whose nodes are made in one graph.
+
+use crate::formula::{Symbol, symbols_from_the_last};
+use decision_graph::{Graph, NodeId};
+use std::alloc::Global;
+use text_rows::{Kind, unknown};
+use waf_base::{Memory, Meter, Stop, Text};
+
+/// Graphs: formulas, and for each its values under all signs as 0 and 1, and then how many nodes were made for all. Each
+/// formula's node is made once more with the operands of each `&` and `|` exchanged: `exchanged` follows where it became
+/// another node.
+pub(crate) struct Graphs;
+
+/// The greatest number of nodes, which no row reaches.
+const ENOUGH: u32 = 1_000_000;
+
+/// How the operands of an operation are handed on.
+#[derive(Clone, Copy, Debug, PartialEq, Eq)]
+enum Order {
+    AsWritten,
+    Exchanged,
+}
+
+/// The graph of a row.
+#[derive(Drop)]
+struct Made {
+    graph: Graph,
+    meter: Meter,
+}
+
+impl Made {
+    /// The node that is true where the variable's sign is.
+    fn variable(&mut self, variable: u32) -> Result<NodeId, Stop> {
+        let (yes, no) = (self.graph.yes(), self.graph.no());
+        self.graph.node(variable, yes, no, &mut self.meter)
+    }
+
+    /// The negation. No row hands in a number that is no node's; one would be answered as want of memory.
+    fn negation(&mut self, a: NodeId) -> Result<NodeId, Stop> {
+        if !self.graph.contains(a) {
+            return Err(Stop::Memory);
+        }
+        self.graph.negate(a, &mut self.meter)
+    }
+
+    /// The conjunction or, for `Or`, the disjunction, as the negation.
+    fn joined(&mut self, symbol: Symbol, a: NodeId, b: NodeId) -> Result<NodeId, Stop> {
+        if !self.graph.contains(a) || !self.graph.contains(b) {
+            return Err(Stop::Memory);
+        }
+        if symbol == Symbol::And {
+            self.graph.both(a, b, &mut self.meter)
+        } else {
+            self.graph.either(a, b, &mut self.meter)
+        }
+    }
+
+    /// Takes the operands of the symbol from the top of the stack, and puts its node there. Nothing where there are too
+    /// few.
+    fn apply(
+        &mut self,
+        symbol: Symbol,
+        order: Order,
+        stack: &mut Vec<NodeId>,
+    ) -> Result<Option<()>, Stop> {
+        if let Symbol::Variable(variable) = symbol {
+            stack.push(self.variable(variable)?)?;
+            return Ok(Some(()));
+        }
+        let Some(a) = stack.pop() else {
+            return Ok(None);
+        };
+        if symbol == Symbol::Not {
+            stack.push(self.negation(a)?)?;
+            return Ok(Some(()));
+        }
+        let Some(b) = stack.pop() else {
+            return Ok(None);
+        };
+        let (first, second) = match order {
+            Order::AsWritten => (a, b),
+            Order::Exchanged => (b, a),
+        };
+        stack.push(self.joined(symbol, first, second)?)?;
+        Ok(Some(()))
+    }
+
+    /// The node of a formula; nothing where the symbols are none.
+    fn node_of(
+        &mut self,
+        alloc: Global,
+        symbols: &[Symbol],
+        order: Order,
+    ) -> Result<Option<NodeId>, Stop> {
+        let mut stack = Vec::new(alloc);
+        for symbol in symbols {
+            if self.apply(*symbol, order, &mut stack)?.is_none() {
+                return Ok(None);
+            }
+        }
+        match stack.as_slice() {
+            [only] => Ok(Some(*only)),
+            _ => Ok(None),
+        }
+    }
+
+    /// The node's values under the 64 choices of signs, of which each is a number: bit `n` is the sign of `xn`.
+    fn values(&self, alloc: Global, id: NodeId) -> Result<Text, Memory> {
+        let mut text = Text::new(alloc);
+        if !self.graph.contains(id) {
+            return Ok(text);
+        }
+        for choice in 0..64u32 {
+            let signs = [
+                choice & 1 == 1,
+                (choice >> 1) & 1 == 1,
+                (choice >> 2) & 1 == 1,
+                (choice >> 3) & 1 == 1,
+                (choice >> 4) & 1 == 1,
+                (choice >> 5) & 1 == 1,
+            ];
+            text.push(if self.graph.value(id, &signs) {
+                b"1"
+            } else {
+                b"0"
+            })?;
+        }
+        Ok(text)
+    }
+}
+
+/// The fields for the formulas, or nothing where one is none.
+fn fields_of(alloc: Global, formulas: &[Text]) -> Result<Option<Vec<Text>>, Stop> {
+    let mut made = Made {
+        graph: Graph::new(alloc),
+        meter: Meter::new(ENOUGH),
+    };
+    let mut fields = Vec::new(alloc);
+    let mut exchanged = false;
+    for formula in formulas {
+        let Some(symbols) = symbols_from_the_last(alloc, formula.bytes())? else {
+            return Ok(None);
+        };
+        let Some(id) = made.node_of(alloc, symbols.as_slice(), Order::AsWritten)? else {
+            return Ok(None);
+        };
+        let again = made.node_of(alloc, symbols.as_slice(), Order::Exchanged)?;
+        exchanged = exchanged || again != Some(id);
+        fields.push(made.values(alloc, id)?)?;
+    }
+    let mut count = Text::new(alloc);
+    count.push_number(alloc, u64::from(made.meter.made))?;
+    fields.push(count)?;
+    if exchanged {
+        fields.push(Text::of(alloc, b"exchanged")?)?;
+    }
+    Ok(Some(fields))
+}
+
+impl Kind for Graphs {
+    fn answer(&self, alloc: Global, given: &[Text]) -> Result<Vec<Text>, Memory> {
+        match fields_of(alloc, given) {
+            Ok(Some(fields)) => Ok(fields),
+            Ok(None) => unknown(alloc),
+            Err(Stop::Memory) => Err(Memory),
+            Err(Stop::Full) => unknown(alloc),
+        }
+    }
+}
