@@ -13,6 +13,3 @@ pub use impact::{Change, Impact};
 pub use laws::{alike_change_nothing, one_impact};
 pub use replay_fault::ReplayFault;
 pub use replaying::replay;
-
-#[cfg(test)]
-mod tests;

@@ -11,6 +11,3 @@ mod whole_path;
 pub use plain::{plain_form, plain_form_is_path_rules};
 pub use revisions::review;
 pub use verdict::{Parting, Reason, Review, ReviewStop, Side};
-
-#[cfg(test)]
-mod tests;
