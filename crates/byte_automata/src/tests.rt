@@ -48,6 +48,9 @@ fn automata_of_two_states_meet_plain_definitions(rt: HostRuntime) -> Result<(), 
         let one = automaton(&rt, rt.alloc(), &rows, 1)?;
         let other = automaton(&rt, rt.alloc(), &[rows[1], rows[0]], 1)?.complement();
         let both = one.meet(rt.alloc(), &other, &mut Meter::new(4))?;
+        let left = one.without(rt.alloc(), &other, &mut Meter::new(4))?;
+        let again = both.complemented(rt.alloc())?.complement();
+        assert!(rt; both.key(rt.alloc())? == again.key(rt.alloc())?);
         let least = both.shrink(rt.alloc())?;
         let shortest = one.shortest(rt.alloc())?;
         let mut first = None;
@@ -55,6 +58,7 @@ fn automata_of_two_states_meet_plain_definitions(rt: HostRuntime) -> Result<(), 
             let text = text.as_bytes();
             let accepted = one.accepts(text);
             assert_eq!(rt; least.accepts(text), accepted && other.accepts(text));
+            assert_eq!(rt; left.accepts(text), accepted && !other.accepts(text));
             if accepted && first.is_none() {
                 first = Some(text);
             }
