@@ -26,6 +26,8 @@ enum Order {
 struct Made {
     graph: Graph,
     meter: Meter,
+    /// Whether a formula became another node with its operands exchanged.
+    exchanged: bool,
 }
 
 impl Made {
@@ -127,6 +129,53 @@ impl Made {
         }
         Ok(text)
     }
+
+    /// The values of a formula; nothing where the symbols are none. Its node is made twice, in both orders.
+    fn values_by(&mut self, alloc: Global, symbols: &[Symbol]) -> Result<Option<Text>, Stop> {
+        let Some(id) = self.node_of(alloc, symbols, Order::AsWritten)? else {
+            return Ok(None);
+        };
+        let again = self.node_of(alloc, symbols, Order::Exchanged)?;
+        if again != Some(id) {
+            self.exchanged = true;
+        }
+        Ok(Some(self.values(alloc, id)?))
+    }
+
+    /// The values of a formula; nothing where the bytes are none.
+    fn values_of(&mut self, alloc: Global, formula: &[u8]) -> Result<Option<Text>, Stop> {
+        match symbols_from_the_last(alloc, formula)? {
+            Some(symbols) => self.values_by(alloc, symbols.as_slice()),
+            None => Ok(None),
+        }
+    }
+
+    /// Adds how many nodes were made, and whether a formula became another node.
+    fn push_count(&self, alloc: Global, fields: &mut Vec<Text>) -> Result<(), Memory> {
+        let mut count = Text::new(alloc);
+        count.push_number(alloc, u64::from(self.meter.made))?;
+        fields.push(count)?;
+        if self.exchanged {
+            fields.push(Text::of(alloc, b"exchanged")?)?;
+        }
+        Ok(())
+    }
+}
+
+/// The values of each formula, or nothing where one is none.
+fn values_of_all(
+    alloc: Global,
+    made: &mut Made,
+    formulas: &[Text],
+) -> Result<Option<Vec<Text>>, Stop> {
+    let mut fields = Vec::new(alloc);
+    for formula in formulas {
+        match made.values_of(alloc, formula.bytes())? {
+            Some(values) => fields.push(values)?,
+            None => return Ok(None),
+        }
+    }
+    Ok(Some(fields))
 }
 
 /// The fields for the formulas, or nothing where one is none.
@@ -134,27 +183,15 @@ fn fields_of(alloc: Global, formulas: &[Text]) -> Result<Option<Vec<Text>>, Stop
     let mut made = Made {
         graph: Graph::new(alloc),
         meter: Meter::new(ENOUGH),
+        exchanged: false,
     };
-    let mut fields = Vec::new(alloc);
-    let mut exchanged = false;
-    for formula in formulas {
-        let Some(symbols) = symbols_from_the_last(alloc, formula.bytes())? else {
-            return Ok(None);
-        };
-        let Some(id) = made.node_of(alloc, symbols.as_slice(), Order::AsWritten)? else {
-            return Ok(None);
-        };
-        let again = made.node_of(alloc, symbols.as_slice(), Order::Exchanged)?;
-        exchanged = exchanged || again != Some(id);
-        fields.push(made.values(alloc, id)?)?;
+    match values_of_all(alloc, &mut made, formulas)? {
+        Some(mut fields) => {
+            made.push_count(alloc, &mut fields)?;
+            Ok(Some(fields))
+        }
+        None => Ok(None),
     }
-    let mut count = Text::new(alloc);
-    count.push_number(alloc, u64::from(made.meter.made))?;
-    fields.push(count)?;
-    if exchanged {
-        fields.push(Text::of(alloc, b"exchanged")?)?;
-    }
-    Ok(Some(fields))
 }
 
 impl Kind for Graphs {
