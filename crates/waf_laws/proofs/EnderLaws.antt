@@ -1,9 +1,9 @@
 -- No two steps of a whole bundle have one ender: priorities of the rules of a list differ.
-use Rattle.std.proofs.Common.{◌≡◌, ◌≢◌, ℕ, zero, suc, ◌<◌, List, [], ◌∷◌, ◌++◌, map, Option, Some, None, All, AllPairs, flat_map, refl, sym, ap, subst, arith}
-use Rattle.std.proofs.lemmas.List.Kept.{AllPairs-cons}
+use Rattle.std.proofs.Common.{◌≡◌, ◌≢◌, ℕ, ◌<◌, List, [], ◌∷◌, map, Option, Some, None, AllPairs, flat_map, refl, sym, ap, subst, arith}
 use Rattle.std.specs.Prelude.{find, if◌then◌else◌, Bool, true, false}
 use Rattle.std.specs.Option.{option_map_or}
 use Rattle.std.specs.Str.{bytes_eq}
+use Rattle.waf_laws.proofs.Pairs.{Each, each_joined, each_weaker, each_from_all, Pairwise, pairs_from, pairwise_from, pairwise_joined}
 use Rattle.waf_model.specs.References.{group_of}
 use Rattle.waf_model.specs.Steps.{Step, group_step, steps_of, steps}
 use Rattle.waf_model.specs.WebAcl.{IsSoundGroup}
@@ -17,53 +17,6 @@ use Rattle.waf_model.specs.declared.rule.Rule.{Rule}
 use Rattle.waf_model.specs.declared.rule.Top.{Top}
 use Rattle.waf_model.specs.declared.rule.Top.TheVariants as tops
 use Rattle.waf_model.specs.declared.rule.TopRule.{TopRule}
-
--- ---- lists
-
--- each element has the fact
-abbrev Each : {X : Type 0} → (X → Type 0) → List X → Type 0
-Each P [] = Unit {0}
-Each P (x ∷ xs) = P x × Each P xs
-
-each_joined : {X : Type 0} (P : X → Type 0) (xs ys : List X) → Each P xs → Each P ys → Each P (xs ++ ys)
-each_joined P [] ys one other = other
-each_joined P (x ∷ xs) ys one other = (one.0, each_joined P xs ys one.1 other)
-
-each_weaker : {X : Type 0} (P Q : X → Type 0) → ((x : X) → P x → Q x) → (xs : List X) → Each P xs → Each Q xs
-each_weaker P Q weaker [] each = tt
-each_weaker P Q weaker (x ∷ xs) each = (weaker x each.0, each_weaker P Q weaker xs each.1)
-
-all_from_each : {X : Type 0} (P : X → Type 0) (xs : List X) → Each P xs → All P xs
-all_from_each P [] each k d within = absurd (omega arith)
-all_from_each P (x ∷ xs) each zero d within = each.0
-all_from_each P (x ∷ xs) each (suc k) d within = all_from_each P xs each.1 k d (omega arith)
-
-each_from_all : {X : Type 0} (P : X → Type 0) (xs : List X) → All P xs → Each P xs
-each_from_all P [] all = tt
-each_from_all P (x ∷ xs) all = (all 0 x (omega arith), each_from_all P xs (λ k d within. all (suc k) d (omega arith)))
-
--- each element is related to each later one
-abbrev Pairwise : {X : Type 0} → (X → X → Type 0) → List X → Type 0
-Pairwise R [] = Unit {0}
-Pairwise R (x ∷ xs) = Each (R x) xs × Pairwise R xs
-
-pairs_from : {X : Type 0} (R : X → X → Type 0) (xs : List X) → Pairwise R xs → AllPairs R xs
-pairs_from R [] pairs = λ i j d less within. absurd (omega arith)
-pairs_from R (x ∷ xs) pairs = AllPairs-cons R x xs (all_from_each (R x) xs pairs.0) (pairs_from R xs pairs.1)
-
-pairwise_joined : {X : Type 0} (R : X → X → Type 0) (xs ys : List X) → Pairwise R xs → Pairwise R ys → Each (λ x. Each (R x) ys) xs → Pairwise R (xs ++ ys)
-pairwise_joined R [] ys one other across = other
-pairwise_joined R (x ∷ xs) ys one other across = (each_joined (R x) xs ys one.0 across.0, pairwise_joined R xs ys one.1 other across.1)
-
--- numbers that ascend, element by element
-ascending_from : {X : Type 0} (f : X → ℕ) (xs : List X) → AllPairs (λ a b. a < b) (map f xs) → Pairwise (λ x y. f x < f y) xs
-ascending_from f [] ascend = tt
-ascending_from {X} f (x ∷ xs) ascend =
-    (first xs (λ k d within. ascend 0 (suc k) d (omega arith) (omega arith)), ascending_from f xs (λ i j d less within. ascend (suc i) (suc j) d (omega arith) (omega arith)))
-  where
-    first : (ys : List X) → All (λ n. f x < n) (map f ys) → Each (λ y. f x < f y) ys
-    first [] all = tt
-    first (y ∷ ys) all = (all 0 0 (omega arith), first ys (λ k d within. all (suc k) d (omega arith)))
 
 -- ---- enders
 
@@ -112,7 +65,7 @@ module _ (bundle : Bundle) (whole : IsWhole bundle) where
   found_in_order top use_of None is = tt
   found_in_order top use_of (Some group) is =
       let sound : IsSoundGroup group = found_sound (λ one. bytes_eq one.arn use_of.arn) bundle.groups group is (each_from_all IsSoundGroup bundle.groups whole.groups) in
-      in_group top use_of group group.rules (ascending_from (λ (rule : Rule). rule.priority) group.rules sound.order.ascend)
+      in_group top use_of group group.rules (pairwise_from (λ a b. a < b) (λ (rule : Rule). rule.priority) group.rules sound.order.ascend)
 
   in_top : (top : TopRule) (body : Top) → Pairwise Differ (steps_of bundle top body)
   in_top top (tops.Plain rule) = (tt, tt)
@@ -162,4 +115,4 @@ module _ (bundle : Bundle) (whole : IsWhole bundle) where
       (across top (steps_in rules) (later_steps top.priority rules pairs.0) (steps_of bundle top top.body) (outer_in_top top top.body))
 
   pub enders_differ : AllPairs Differ (steps bundle)
-  enders_differ = pairs_from Differ (steps bundle) (in_rules bundle.acl.rules (ascending_from (λ (top : TopRule). top.priority) bundle.acl.rules whole.acl.order.ascend))
+  enders_differ = pairs_from Differ (steps bundle) (in_rules bundle.acl.rules (pairwise_from (λ a b. a < b) (λ (top : TopRule). top.priority) bundle.acl.rules whole.acl.order.ascend))

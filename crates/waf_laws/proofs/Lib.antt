@@ -2,13 +2,16 @@ pub mod AddressTruths
 pub mod AgreementLaws
 pub mod Among
 pub mod DecisionLaws
+pub mod Elements
 pub mod EnderLaws
 pub mod HoldsTruths
 pub mod Matching
 pub mod OneOutcome
 pub mod OutcomeTruths
+pub mod Pairs
 pub mod PatternTruths
 pub mod PlaceLaws
 pub mod TestTruths
 pub mod Truths
 pub mod WithinLaws
+pub mod WrittenLaws

@@ -9,6 +9,7 @@ mod limits;
 mod outcome;
 mod places;
 mod statements;
+mod written;
 
 pub use decisions::{decisions_in_order, stands_before};
 pub use enders::enders_tell_steps;
@@ -18,3 +19,4 @@ pub use limits::{header_names_are_exact, nothing_is_oversized};
 pub use outcome::{one_decision, outcome_is_computed};
 pub use places::places_follow_steps;
 pub use statements::{statements_are_decided, tests_are_decided};
+pub use written::written_at_places;
