@@ -134,9 +134,10 @@ class Builder:
     def __init__(self, used, lock):
         self.used, self.lock, self.running = used, lock, {}
         self.begun = self.told = time.time()
-        self.lanes = max(1, min(len(os.sched_getaffinity(0)), memory_free() // MEMORY_A_JOB))
+        # (a crate to itself takes half the lanes more, see below)
+        self.lanes = max(1, min(len(os.sched_getaffinity(0)), memory_free() // MEMORY_A_JOB * 2 // 3))
 
-    def start(self, name, jobs):
+    def start(self, name, jobs, lanes):
         words = ["lib", "--jobs", str(jobs)]
         if name == PROGRAM:
             # (the toolchain leaves a proved program after a run; a failed build shows by the run of the shipped example)
@@ -146,16 +147,20 @@ class Builder:
         folder = make_room(name, self.used)
         with open(f"{out_of(name)}/build.log", "wb") as log:
             how = {"stdin": subprocess.DEVNULL, "stdout": log, "stderr": log, "pass_fds": [self.lock.fileno()]}
-            self.running[name] = subprocess.Popen(["rt", *words], cwd=folder, **how), jobs
+            self.running[name] = subprocess.Popen(["rt", *words], cwd=folder, **how), lanes
 
     def start_those_ready(self, done, behind):
-        left = [it for it in self.used if it not in done and it not in self.running]
-        ready = [it for it in left if all(own in done for own in self.used[it])]
-        for at, name in enumerate(sorted(ready, key=lambda it: -behind[it])):
-            idle = self.lanes - sum(jobs for _, jobs in self.running.values())
-            if idle < 1:
-                return
-            self.start(name, max(1, min(4, idle // (len(ready) - at))))
+        """Starts crates, those with the longest way behind them first. All wait for the longest of those that are left, so
+        it has as many jobs as there are lanes, and the others still share half of these: a check has long turns of one job."""
+        left = sorted((it for it in self.used if it not in done), key=lambda it: -behind[it])
+        ready = [it for it in left if it not in self.running and all(own in done for own in self.used[it])]
+        for at, name in enumerate(ready):
+            idle = self.lanes - sum(lanes for _, lanes in self.running.values())
+            if name == left[0]:
+                self.start(name, self.lanes, (self.lanes + 1) // 2)
+            elif idle > 0:
+                jobs = max(1, idle // (len(ready) - at))
+                self.start(name, jobs, jobs)
 
     def build(self):
         """Returns the name of the crate that failed, or None."""
