@@ -1,4 +1,5 @@
-# Sourced by the scripts that time requests: a web ACL of 160 rules with patterns, and requests in the shape of real traffic.
+# Sourced by the scripts that time requests: a web ACL of 160 rules with patterns, one without rules, and requests in the shape
+# of real traffic.
 
 # A bundle whose rule 159 answers with this code.
 bundle() {
@@ -14,6 +15,11 @@ bundle() {
             printf "%s{\"Name\":\"r%d\",\"Priority\":%d,\"Statement\":{\"RegexMatchStatement\":{\"RegexString\":\"%s%d\",\"FieldToMatch\":%s,\"TextTransformations\":%s}},\"Action\":{\"Block\":{\"CustomResponse\":{\"ResponseCode\":%d}}}}", (i ? "," : ""), i, i, pattern[i % 6], i, field[i % 5], transforms, (i == 159 ? code : 403)
         printf "]}}\n"
     }'
+}
+
+# A bundle without rules.
+no_rules() {
+    echo '{"WebACL":{"Name":"w","ARN":"arn:aws:wafv2:us-east-1:111122223333:regional/webacl/w/1","DefaultAction":{"Allow":{}},"Rules":[]}}'
 }
 
 # So many requests, one a line, one of ten a POST with a body.
