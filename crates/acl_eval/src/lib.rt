@@ -18,6 +18,3 @@ pub use laws::one_outcome;
 pub use match_eval::Sets;
 pub use prepared::Prepared;
 pub use writing::{write_capacity, write_decision, write_outcome};
-
-#[cfg(test)]
-mod tests;

@@ -88,7 +88,7 @@ impl Dfa {
 
     /// The automaton accepts the text: from the start state, the edges of its bytes lead to an accepting state.
     pub fn accepts(&self, text: &[u8]) -> bool
-        ensures { result ≡ accepts self.now text.now }
+        ensures accepted { result ≡ accepts self.now text.now }
     {
         let mut state = self.start;
         for byte in text {

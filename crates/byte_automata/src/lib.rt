@@ -39,6 +39,3 @@ pub use number_list::NumberList;
 pub use shrink::same_least;
 pub use state::State;
 pub use state_pair::StatePair;
-
-#[cfg(test)]
-mod tests;

@@ -21,6 +21,3 @@ mod words;
 
 pub use ready::{Ready, holds};
 pub use sets::Sets;
-
-#[cfg(test)]
-mod tests;

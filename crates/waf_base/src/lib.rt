@@ -30,6 +30,3 @@ pub use standard_sink::StdSink;
 pub use sure_files::SureFiles;
 pub use sure_sink::SureSink;
 pub use text::Text;
-
-#[cfg(test)]
-mod tests;

@@ -21,10 +21,8 @@ mod writing;
 
 pub use answer::Answer;
 pub use laws::written_where_the_count_stayed;
+pub use review_text::write_review;
 pub use role::Role;
 pub use running::run;
 pub use status::Status;
 pub use writing::write_answer;
-
-#[cfg(test)]
-mod tests;

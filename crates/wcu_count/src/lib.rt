@@ -8,6 +8,3 @@ mod statements;
 mod sums;
 
 pub use rules::capacity;
-
-#[cfg(test)]
-mod tests;

@@ -1,8 +1,10 @@
+//! Automata of two states against plain definitions, and a chain of more states than 16 bits number.
+
 ghost use Rattle.std.specs.Prelude.{◌≡◌, ◌<◌, length, IfOk};
 ghost use Rattle.std.specs.List.{All};
 ghost use Rattle.byte_automata.specs.Row.{CoversBytes};
 
-use crate::{Builder, Dfa, Edge};
+use byte_automata::{Builder, Dfa, Edge};
 use std::alloc::Global;
 use std::process::Abort;
 use std::test::Fail;

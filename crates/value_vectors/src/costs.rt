@@ -5,12 +5,12 @@ ghost use Rattle.std.specs.Prelude.{◌≤◌, IsTrue, IfOk};
 ghost use Rattle.waf_model.specs.Cost.{is_limited_top, IsCounted};
 ghost use Rattle.waf_model.specs.StatementCount.{top_count};
 
-use crate::capacity;
 use std::alloc::Global;
 use std::test::Fail;
 use waf_model::{
     Acl, Action, Bundle, Decision, GroupUse, Items, Memory, Rule, Statement, Text, Top, TopRule,
 };
+use wcu_count::capacity;
 
 /// A bundle whose web ACL has that one rule.
 fn bundle_of(alloc: Global, body: Top) -> Result<Bundle, Memory>

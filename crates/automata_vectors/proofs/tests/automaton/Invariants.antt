@@ -1,7 +1,7 @@
 use Rattle.std.proofs.Common.{◌≡◌, ◌<◌, length}
 use Rattle.std.specs.List.{All}
 use Rattle.byte_automata.specs.Row.{CoversBytes}
-use Rattle.byte_automata.proofs.tests.automaton.Given as goal
+use Rattle.automata_vectors.proofs.tests.automaton.Given as goal
 
 abbrev pub invariant-loop-i : goal.invariant-loop-i
 invariant-loop-i g l =

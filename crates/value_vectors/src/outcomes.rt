@@ -1,7 +1,7 @@
 //! Outcomes that no bundle in a file comes to: numbers at the ends of their types, and empty names and labels. All else
 //! that is tested is a row of run_rows.
 
-use crate::write_outcome;
+use acl_eval::write_outcome;
 use std::alloc::Global;
 use std::test::Fail;
 use waf_model::{Capacity, Decision, Ender, Items, Memory, Outcome, Text};

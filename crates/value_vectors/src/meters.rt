@@ -1,5 +1,7 @@
-use crate::{Full, Meter, Text};
+//! Texts and meters alone.
+
 use std::test::Fail;
+use waf_base::{Full, Meter, Text};
 
 #[test]
 fn a_text_has_the_bytes_it_was_made_of(rt: HostRuntime) -> Result<(), Fail> {

@@ -1,0 +1,5 @@
+//! Tests of automata over bytes, through the public calls.
+#![tactic(auto)]
+
+#[cfg(test)]
+mod tests;
