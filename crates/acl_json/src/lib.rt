@@ -13,6 +13,3 @@ mod web_acl;
 
 pub use statement_json::Encoding;
 pub use web_acl::{acl_among, acl_of, group_among, group_of, read_acl};
-
-#[cfg(test)]
-mod tests;

@@ -19,6 +19,3 @@ pub use keys::{Keys, keys_of};
 pub use laws::read_answers_are_lawful;
 pub use look_up::{group_answer, statement_answer, token_answer};
 pub use reading::read_answers;
-
-#[cfg(test)]
-mod tests;

@@ -21,6 +21,3 @@ pub use words::{
     ensured, label_member, list_member, name_member, named_count, object, optional_list,
     optional_text, text_member, whole_member, within_limit,
 };
-
-#[cfg(test)]
-mod tests;

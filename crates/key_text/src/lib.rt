@@ -11,6 +11,3 @@ mod quotation;
 pub use float::{holds_float, search_holds_float, unscoped_holds_float};
 pub use key::{rate_key, search_key, statement_key, unscoped_key};
 pub use patterns::patterns_key;
-
-#[cfg(test)]
-mod tests;

@@ -22,6 +22,3 @@ pub use oversize::oversized;
 pub use reading::read_request;
 pub use showing::parts;
 pub use writing::write_request;
-
-#[cfg(test)]
-mod tests;

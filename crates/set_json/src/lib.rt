@@ -12,6 +12,3 @@ mod regex_set;
 mod unwrapped;
 
 pub use bundle::read_bundle;
-
-#[cfg(test)]
-mod tests;

@@ -31,6 +31,3 @@ pub use block::block_code;
 pub use encoding::Encoding;
 pub use matching::{arn, regex};
 pub use top::{TopStatement, rule_statement, top_statement};
-
-#[cfg(test)]
-mod tests;
