@@ -16,4 +16,5 @@ pub mod Rows
 pub mod Runs
 pub mod Sourced
 pub mod Splitting
+pub mod Walks
 pub mod Words

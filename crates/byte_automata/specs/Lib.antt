@@ -3,6 +3,7 @@ pub mod Classes
 pub mod FirstReach
 pub mod Key
 pub mod Least
+pub mod Makes
 pub mod Meet
 pub mod Members
 pub mod Numbers
@@ -13,5 +14,6 @@ pub mod Sources
 pub mod Spending
 pub mod Splitting
 pub mod Texts
+pub mod Walk
 pub mod Words
 pub use Rattle.sqlite_items.specs.formers

@@ -28,6 +28,8 @@ mod sizes;
 mod sources;
 mod state;
 mod state_pair;
+mod walk;
+mod walking;
 mod without;
 
 pub use builder::Builder;
@@ -39,3 +41,5 @@ pub use number_list::NumberList;
 pub use shrink::same_least;
 pub use state::State;
 pub use state_pair::StatePair;
+pub use walk::Walk;
+pub use walking::walked;

@@ -5,7 +5,7 @@ ghost use Rattle.std.specs.List.{All};
 ghost use Rattle.byte_automata.specs.Automaton.{accepting, accepts};
 ghost use Rattle.byte_automata.specs.Meet.{IsReachablePair, next_pair, Grows, Counts, CountsOn, StopsBy, Advances};
 ghost use Rattle.byte_automata.specs.Members.{AreDifferent};
-ghost use Rattle.byte_automata.specs.Numbers.{HasNumber, Numbers};
+ghost use Rattle.byte_automata.specs.Numbers.{HasNumber};
 ghost use Rattle.byte_automata.specs.Row.{CoversBytes, target};
 ghost use Rattle.waf_base.specs.Members.{Exactly};
 
@@ -15,6 +15,7 @@ use crate::numbering::Numbering;
 use crate::renumbered::push_state;
 use crate::state::State;
 use crate::state_pair::StatePair;
+use crate::walking::reach;
 use sqlite_items::Items;
 use std::alloc::Global;
 use waf_base::{Memory, Meter, Stop};
@@ -121,21 +122,4 @@ fn advanced(place: usize, last: u8, other: u8) -> usize
     ensures { Advances place last other result }
 {
     if last <= other { place + 1 } else { place }
-}
-
-/// The number of the pair, which makes a node where the pair is new.
-fn reach(pairs: &mut Numbering<StatePair>, meter: &mut Meter, pair: StatePair) -> Result<u32, Stop>
-    ensures ok { IfOk result (λ number. Numbers pairs.old pair number pairs.new) }
-    ensures counts { OnOk result (Counts pairs.old pairs.new meter.old.made meter.new.made) }
-    ensures stop { IfErr result (λ stop. CountsOn stop pairs.old pairs.new meter.old.made meter.new.made meter.new.limit) }
-    ensures grown { Grows (λ more. more ≡ pair) pairs.old pairs.new }
-    ensures different { AreDifferent pairs.old → AreDifferent pairs.new }
-    ensures limit { meter.new.limit ≡ meter.old.limit }
-{
-    let known = pairs.len();
-    let number = pairs.number(pair)?;
-    if number as usize == known {
-        meter.make()?;
-    }
-    Ok(number)
 }

@@ -29,7 +29,7 @@ impl<T: Eq + Hash> Model for Numbering<T> {
     ghost invariant = { λ n. length n.items.keys < 2 ^ 32 };
 }
 
-impl<T: Eq + Hash + Copy + Drop> Numbering<T> {
+impl<T: Eq + Hash + Drop> Numbering<T> {
     /// No thing is numbered.
     pub(crate) fn new(alloc: Global) -> Numbering<T>
         ensures { result ≡ [] }

@@ -37,3 +37,17 @@ pub(crate) fn renamed_row(alloc: Global, edges: &[Edge], names: &[u32]) -> Resul
     }
     Ok(row)
 }
+
+/// The edges, where neighbours that lead to one state are one edge.
+pub(crate) fn joined_row(alloc: Global, edges: &[Edge]) -> Result<Vec<Edge>, Memory>
+    ensures { IfOk result (λ row. row.items ≡ joined edges.now) }
+{
+    let mut row = Vec::new(alloc);
+    for i in 0..edges.len() {
+        let edge = edges[i];
+        if i + 1 == edges.len() || edges[i + 1].to != edge.to {
+            row.push(edge)?;
+        }
+    }
+    Ok(row)
+}

@@ -13,7 +13,7 @@ use Rattle.byte_automata.proofs.meet.edges_of_pair.Goals.{After-reach, then-merg
 along : (xs ys us vs : List Edge) (before after : List StatePair) → xs ≡ us → ys ≡ vs → Grows (λ q. (byte : ℕ) × (q ≡ both xs ys byte)) before after → Grows (λ q. (byte : ℕ) × (q ≡ both us vs byte)) before after
 along xs ys us vs before after e f g = subst (λ t. Grows (λ q. (byte : ℕ) × (q ≡ both t vs byte)) before after) e (subst (λ t. Grows (λ q. (byte : ℕ) × (q ≡ both xs t byte)) before after) f g)
 
-grown : (c : After-reach) → Grows (λ q. (byte : ℕ) × (q ≡ next_pair c.args.left.now c.args.right.now c.args.pair byte)) c.args.pairs.now c.reach.new.pairs
+grown : (c : After-reach) → Grows (λ q. (byte : ℕ) × (q ≡ next_pair c.args.left.now c.args.right.now c.args.pair byte)) c.args.pairs.now c.reach.new.places
 grown c =
     let xs = c.edges_of-lefts.result.now in
     let ys = c.edges_of-rights.result.now in
@@ -23,8 +23,8 @@ grown c =
     let y = get_or ys j (record { last = 0; to = 0 }) in
     let in_x : i < length xs = omega arith in
     let in_y : j < length ys = omega arith in
-    along xs ys _ _ c.args.pairs.now c.reach.new.pairs c.edges_of-lefts.ensures.edges c.edges_of-rights.ensures.edges
-    (merging-grown xs ys c.args.pairs.now c.merge.pairs c.reach.new.pairs c.args.meter.now.made c.merge.meter.made 0 c.args.meter.now.limit c.merge.meter.limit 0 i j c.merge.row.items x y c.merge.invariant in_x in_y (get_or_default xs i _ x in_x) (get_or_default ys j _ y in_y) c.reach.ensures.grown)
+    along xs ys _ _ c.args.pairs.now c.reach.new.places c.edges_of-lefts.ensures.edges c.edges_of-rights.ensures.edges
+    (merging-grown xs ys c.args.pairs.now c.merge.pairs c.reach.new.places c.args.meter.now.made c.merge.meter.made 0 c.args.meter.now.limit c.merge.meter.limit 0 i j c.merge.row.items x y c.merge.invariant in_x in_y (get_or_default xs i _ x in_x) (get_or_default ys j _ y in_y) c.reach.ensures.grown)
 
 pub returns-in_err-to-clause-grown : goal.returns-in_err-to-clause-grown
 returns-in_err-to-clause-grown c = grown (goal.at.returns-in_err-to-clause-grown c).After-reach
@@ -44,7 +44,7 @@ merge-preserved c =
     let in_y : j < length ys = omega arith in
     let row : c.push.new.self.items ≡ c.merge.row.items ++ (record { last = c.min.result; to = c.in_ok-to.to }) ∷ [] = c.in_ok-push.ensures.items in
     rw (row, c.min.ensures)
-    (merging-step xs ys c.args.pairs.now c.merge.pairs c.reach.new.pairs c.args.meter.now.made c.merge.meter.made c.reach.new.meter.made c.args.meter.now.limit c.merge.meter.limit c.reach.new.meter.limit i j c.merge.row.items x y c.merge.invariant in_x in_y (get_or_default xs i _ x in_x) (get_or_default ys j _ y in_y)
+    (merging-step xs ys c.args.pairs.now c.merge.pairs c.reach.new.places c.args.meter.now.made c.merge.meter.made c.reach.new.meter.made c.args.meter.now.limit c.merge.meter.limit c.reach.new.meter.limit i j c.merge.row.items x y c.merge.invariant in_x in_y (get_or_default xs i _ x in_x) (get_or_default ys j _ y in_y)
     c.advanced-i.result c.advanced-j.result c.in_ok-to.to c.in_ok-to.ensures.ok c.reach.ensures.grown c.in_ok-to.ensures.counts c.reach.ensures.different c.reach.ensures.limit c.advanced-i.ensures c.advanced-j.ensures)
 
 pub returns-clause-leads : goal.returns-clause-leads

@@ -32,7 +32,7 @@ both_accept-requires-clause-right c = (places (goal.at.both_accept-requires-clau
 
 pub returns-in-Err-clause-stop : goal.returns-in-Err-clause-stop
 returns-in-Err-clause-stop c =
-    first-stops c.args.self.now c.args.other.now (record { left = c.start.result; right = c.start-2.result }) c.new-pairs.result c.reach.new.pairs c.args.meter.now.made c.reach.new.meter.made c.reach.new.meter.limit c.in-Err.stop (let most : c.args.meter.now.made ≤ c.reach.new.meter.limit = omega (arith, c.reach.ensures.limit, c.args.meter.now.within) in most) c.new-pairs.ensures c.start.ensures.start c.start-2.ensures.start
+    first-stops c.args.self.now c.args.other.now (record { left = c.start.result; right = c.start-2.result }) c.new-pairs.result c.reach.new.places c.args.meter.now.made c.reach.new.meter.made c.reach.new.meter.limit c.in-Err.stop (let most : c.args.meter.now.made ≤ c.reach.new.meter.limit = omega (arith, c.reach.ensures.limit, c.args.meter.now.within) in most) c.new-pairs.ensures c.start.ensures.start c.start-2.ensures.start
     c.reach.ensures.grown c.reach.ensures.different c.in-Err.ensures.stop
 
 pub returns-in-Err-edges_of_pair-clause-stop : goal.returns-in-Err-edges_of_pair-clause-stop
