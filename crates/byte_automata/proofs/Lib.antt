@@ -4,6 +4,7 @@ pub mod Different
 pub mod Explores
 pub mod Flattens
 pub mod Grouping
+pub mod Made
 pub mod Marks
 pub mod Meets
 pub mod Merges
@@ -16,5 +17,6 @@ pub mod Rows
 pub mod Runs
 pub mod Sourced
 pub mod Splitting
+pub mod Told
 pub mod Walks
 pub mod Words

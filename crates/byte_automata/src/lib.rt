@@ -36,7 +36,7 @@ pub use builder::Builder;
 pub use dfa::Dfa;
 pub use edge::Edge;
 pub use key::same_key;
-pub use laws::{same_on_texts, states_are_residuals};
+pub use laws::{same_on_texts, states_are_residuals, texts_count_places};
 pub use number_list::NumberList;
 pub use shrink::same_least;
 pub use state::State;
