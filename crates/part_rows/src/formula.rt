@@ -1,4 +1,5 @@
-//! Formulas in prefix form: `x0` to `x5`, `!` and a formula, `&` or `|` and two formulas, with nothing between them.
+//! Formulas in prefix form: `x0` to `x5`, `=` for a test of `x0` that is true either way, `!` and a formula, `&` or `|` and two
+//! formulas, with nothing between them.
 
 use std::alloc::Global;
 use waf_base::Memory;
@@ -7,6 +8,7 @@ use waf_base::Memory;
 #[derive(Clone, Copy, Debug, PartialEq, Eq)]
 pub(crate) enum Symbol {
     Variable(u32),
+    Either,
     Not,
     And,
     Or,
@@ -27,6 +29,7 @@ pub(crate) fn symbols_from_the_last(
                 digit = Some(u32::from(*byte - b'0'));
                 continue;
             }
+            (None, b'=') => Symbol::Either,
             (None, b'!') => Symbol::Not,
             (None, b'&') => Symbol::And,
             (None, b'|') => Symbol::Or,

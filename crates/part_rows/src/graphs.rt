@@ -11,6 +11,9 @@ use waf_base::{Memory, Meter, Stop, Text};
 /// another node.
 pub(crate) struct Graphs;
 
+/// Graphs of few nodes: behind their greatest number the same, where a formula that would need more comes to `full`.
+pub(crate) struct LimitedGraphs;
+
 /// The greatest number of nodes, which no row reaches.
 const ENOUGH: u32 = 1_000_000;
 
@@ -31,6 +34,12 @@ struct Made {
 }
 
 impl Made {
+    /// The node of a test whose children are both true, which is what they are.
+    fn true_either_way(&mut self) -> Result<NodeId, Stop> {
+        let yes = self.graph.yes();
+        self.graph.node(0, yes, yes, &mut self.meter)
+    }
+
     /// The node that is true where the variable's sign is.
     fn variable(&mut self, variable: u32) -> Result<NodeId, Stop> {
         let (yes, no) = (self.graph.yes(), self.graph.no());
@@ -67,6 +76,10 @@ impl Made {
     ) -> Result<Option<()>, Stop> {
         if let Symbol::Variable(variable) = symbol {
             stack.push(self.variable(variable)?)?;
+            return Ok(Some(()));
+        }
+        if symbol == Symbol::Either {
+            stack.push(self.true_either_way()?)?;
             return Ok(Some(()));
         }
         let Some(a) = stack.pop() else {
@@ -162,45 +175,67 @@ impl Made {
     }
 }
 
-/// The values of each formula, or nothing where one is none.
-fn values_of_all(
-    alloc: Global,
-    made: &mut Made,
-    formulas: &[Text],
-) -> Result<Option<Vec<Text>>, Stop> {
-    let mut fields = Vec::new(alloc);
-    for formula in formulas {
-        match made.values_of(alloc, formula.bytes())? {
-            Some(values) => fields.push(values)?,
-            None => return Ok(None),
-        }
+/// The values of a formula, or that it would need too many nodes; nothing where the symbols are none.
+fn field_of(alloc: Global, made: &mut Made, formula: &[u8]) -> Result<Option<Text>, Memory> {
+    match made.values_of(alloc, formula) {
+        Ok(values) => Ok(values),
+        Err(Stop::Full) => Ok(Some(Text::of(alloc, b"full")?)),
+        Err(Stop::Memory) => Err(Memory),
     }
-    Ok(Some(fields))
 }
 
 /// The fields for the formulas, or nothing where one is none.
-fn fields_of(alloc: Global, formulas: &[Text]) -> Result<Option<Vec<Text>>, Stop> {
+fn fields_of(
+    alloc: Global,
+    most_nodes: u32,
+    formulas: &[Text],
+) -> Result<Option<Vec<Text>>, Memory> {
     let mut made = Made {
         graph: Graph::new(alloc),
-        meter: Meter::new(ENOUGH),
+        meter: Meter::new(most_nodes),
         exchanged: false,
     };
-    match values_of_all(alloc, &mut made, formulas)? {
-        Some(mut fields) => {
-            made.push_count(alloc, &mut fields)?;
-            Ok(Some(fields))
+    let mut fields = Vec::new(alloc);
+    for formula in formulas {
+        match field_of(alloc, &mut made, formula.bytes())? {
+            Some(field) => fields.push(field)?,
+            None => return Ok(None),
         }
-        None => Ok(None),
+    }
+    made.push_count(alloc, &mut fields)?;
+    Ok(Some(fields))
+}
+
+/// The fields behind the greatest number of nodes, or nothing where that is no number or a formula is none.
+fn limited_fields(alloc: Global, given: &[Text]) -> Result<Option<Vec<Text>>, Memory> {
+    let [digits, formulas @ ..] = given else {
+        return Ok(None);
+    };
+    let Ok(digits) = std::str::from_utf8(digits.bytes()) else {
+        return Ok(None);
+    };
+    match digits.parse::<u32>() {
+        Ok(most_nodes) => fields_of(alloc, most_nodes, formulas),
+        Err(_) => Ok(None),
+    }
+}
+
+/// The fields, or that the row is none of the kind.
+fn fields_or_unknown(alloc: Global, fields: Option<Vec<Text>>) -> Result<Vec<Text>, Memory> {
+    match fields {
+        Some(fields) => Ok(fields),
+        None => unknown(alloc),
     }
 }
 
 impl Kind for Graphs {
     fn answer(&self, alloc: Global, given: &[Text]) -> Result<Vec<Text>, Memory> {
-        match fields_of(alloc, given) {
-            Ok(Some(fields)) => Ok(fields),
-            Ok(None) => unknown(alloc),
-            Err(Stop::Memory) => Err(Memory),
-            Err(Stop::Full) => unknown(alloc),
-        }
+        fields_or_unknown(alloc, fields_of(alloc, ENOUGH, given)?)
+    }
+}
+
+impl Kind for LimitedGraphs {
+    fn answer(&self, alloc: Global, given: &[Text]) -> Result<Vec<Text>, Memory> {
+        fields_or_unknown(alloc, limited_fields(alloc, given)?)
     }
 }

@@ -17,7 +17,7 @@ mod transformations;
 use actions::EffectiveActions;
 use addresses::{Ranges, ReadAddresses, WrittenAddresses};
 use covers::Covers;
-use graphs::Graphs;
+use graphs::{Graphs, LimitedGraphs};
 use label_rows::LabelRows;
 use patterns::{Hits, Searches};
 use references::References;
@@ -41,5 +41,6 @@ fn main(rt: HostRuntime) -> io::Result<()> {
     print_report(&rt, "labels.rows", &LabelRows)?;
     print_report(&rt, "actions.rows", &EffectiveActions)?;
     print_report(&rt, "references.rows", &References)?;
-    print_report(&rt, "graphs.rows", &Graphs)
+    print_report(&rt, "graphs.rows", &Graphs)?;
+    print_report(&rt, "graph_limits.rows", &LimitedGraphs)
 }
