@@ -7,6 +7,7 @@ ghost use Rattle.statement_json.specs.Statements.{most_statements};
 ghost use Rattle.std.specs.BTreeMap.{keys};
 ghost use Rattle.std.specs.List.{list_any};
 ghost use Rattle.std.specs.Prelude.{◌≡◌, ◌+◌, ◌<◌, ◌≤◌, ◌==◌, IfOk, IsTrue, OnOk, false, not};
+ghost use Rattle.std.specs.Result.{result_map_both};
 ghost use Rattle.waf_model.specs.Cost.{is_limited_top as is_limited_body};
 ghost use Rattle.waf_model.specs.Gives.{Gives};
 ghost use Rattle.waf_model.specs.SoundStatement.{is_sound_statement, is_sound_top as is_sound_body};
@@ -198,6 +199,17 @@ fn body_with(name: Text, priority: u32, place: u32, top: TopStatement, parts: Ru
     }
 }
 
+// A value beside another, where that was read. It is of any type, so that where the other wasn't read it is let go in one
+// step, and not by each of its parts.
+fn beside<T: Drop, U: Drop>(one: T, other: Result<U, ReadFault>) -> Result<(T, U), ReadFault>
+    ensures { result ≡ result_map_both (λ other. (one, other)) (λ fault. fault) other }
+{
+    match other {
+        Ok(other) => Ok((one, other)),
+        Err(fault) => Err(fault),
+    }
+}
+
 /// A rule of a web ACL, with a priority that no earlier rule has.
 #[tactic(auto, unfolding(crate::specs::Rules::top_rule_at))]
 pub(crate) fn top_rule(
@@ -226,7 +238,8 @@ pub(crate) fn top_rule(
     let own = copy_of(alloc, &name)?;
     let priority = fresh_priority(alloc, earlier, v, path)?;
     let top = top(alloc, sets, encoding, &name, v, path, seen)?;
-    let parts = parts(alloc, is_group(&top), v, path)?;
+    let parts = parts(alloc, is_group(&top), v, path);
+    let (top, parts) = beside(top, parts)?;
     Ok(TopRule {
         name,
         priority,
@@ -261,6 +274,7 @@ pub(crate) fn group_rule(
     let name = Text::of(alloc, name_member(alloc, v, path)?.as_bytes())?;
     let priority = fresh_priority(alloc, earlier, v, path)?;
     let statement = statement(alloc, sets, encoding, group, &name, v, path, seen)?;
-    let parts = parts(alloc, false, v, path)?;
+    let parts = parts(alloc, false, v, path);
+    let (statement, parts) = beside(statement, parts)?;
     Ok(rule_with(name, priority, place, statement, parts))
 }
