@@ -1,6 +1,6 @@
 //! Rows of labels: the name of a call, and what it is given.
 
-use crate::answers::{one, word};
+use crate::answers::{counted, one, word};
 use label_scope::{Labels, matches, qualify};
 use std::alloc::Global;
 use text_rows::{Kind, unknown};
@@ -55,14 +55,7 @@ fn matched_by_any(alloc: Global, given: &[Text]) -> Result<Vec<Text>, Memory> {
 fn sorted(alloc: Global, given: &[Text]) -> Result<Vec<Text>, Memory> {
     let set = set_of(alloc, given)?;
     let labels = set.sorted()?;
-    let mut count = Text::new(alloc);
-    count.push_number(alloc, labels.len() as u64)?;
-    let mut fields = Vec::new(alloc);
-    fields.push(count)?;
-    for label in labels.as_slice() {
-        fields.push(Text::of(alloc, label.bytes())?)?;
-    }
-    Ok(fields)
+    counted(alloc, labels.as_slice())
 }
 
 /// The label behind its namespace.

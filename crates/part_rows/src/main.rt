@@ -1,5 +1,5 @@
 //! Runs rows of the parts of an evaluation through their calls: patterns, transformations, addresses, ranges, covers,
-//! labels, effective actions, and decision graphs. docs/ROWS.md says what each kind is given and wants.
+//! labels, vocabularies, effective actions, and decision graphs. docs/ROWS.md says what each kind is given and wants.
 #![tactic(auto)]
 
 mod actions;
@@ -13,6 +13,7 @@ mod number_texts;
 mod patterns;
 mod references;
 mod transformations;
+mod vocabularies;
 
 use actions::EffectiveActions;
 use addresses::{Ranges, ReadAddresses, WrittenAddresses};
@@ -24,6 +25,7 @@ use references::References;
 use std::io;
 use text_rows::print_report;
 use transformations::Transformations;
+use vocabularies::Vocabularies;
 
 /// Prints the reports on the rows of what a statement tests.
 fn print_tests(rt: &HostRuntime) -> io::Result<()> {
@@ -39,6 +41,7 @@ fn print_tests(rt: &HostRuntime) -> io::Result<()> {
 fn main(rt: HostRuntime) -> io::Result<()> {
     print_tests(&rt)?;
     print_report(&rt, "labels.rows", &LabelRows)?;
+    print_report(&rt, "vocabulary.rows", &Vocabularies)?;
     print_report(&rt, "actions.rows", &EffectiveActions)?;
     print_report(&rt, "references.rows", &References)?;
     print_report(&rt, "graphs.rows", &Graphs)?;
