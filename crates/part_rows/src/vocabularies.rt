@@ -129,30 +129,66 @@ fn scope_of(name: &[u8]) -> Option<LabelScope> {
     }
 }
 
-/// Adds a label match at that place; answers whether there is such a place.
-fn add(
-    alloc: Global,
-    rules: &mut Rules,
-    place: &[u8],
-    statement: Statement,
-) -> Result<bool, Memory> {
-    match place {
-        b"rule" => rules
-            .tops
-            .push(top(alloc, Top::Plain(rule(alloc, statement))))?,
-        b"nested" => {
-            let statement = nested(alloc, statement)?;
-            rules
-                .tops
-                .push(top(alloc, Top::Plain(rule(alloc, statement))))?;
-        }
-        b"managed" => rules
-            .tops
-            .push(top(alloc, Top::Managed(managed(alloc, statement))))?,
-        b"group" => rules.inner.push(rule(alloc, statement))?,
-        _ => return Ok(false),
+/// The bundle that has a label match.
+#[derive(Clone, Copy, Debug, PartialEq, Eq)]
+enum Side {
+    Old,
+    New,
+}
+
+fn side_of(name: &[u8]) -> Option<Side> {
+    match name {
+        b"old" => Some(Side::Old),
+        b"new" => Some(Side::New),
+        _ => None,
     }
-    Ok(true)
+}
+
+/// Where a label match stands in its bundle.
+#[derive(Clone, Copy, Debug, PartialEq, Eq)]
+enum Place {
+    Rule,
+    Nested,
+    Managed,
+    Group,
+}
+
+fn place_of(name: &[u8]) -> Option<Place> {
+    match name {
+        b"rule" => Some(Place::Rule),
+        b"nested" => Some(Place::Nested),
+        b"managed" => Some(Place::Managed),
+        b"group" => Some(Place::Group),
+        _ => None,
+    }
+}
+
+/// Adds a rule of the web ACL.
+fn add_top(alloc: Global, rules: &mut Rules, body: Top) -> Result<(), Memory> {
+    rules.tops.push(top(alloc, body))?;
+    Ok(())
+}
+
+/// Adds a label match at that place.
+fn add(alloc: Global, rules: &mut Rules, place: Place, statement: Statement) -> Result<(), Memory> {
+    match place {
+        Place::Rule => add_top(alloc, rules, Top::Plain(rule(alloc, statement))),
+        Place::Nested => {
+            let statement = nested(alloc, statement)?;
+            add_top(alloc, rules, Top::Plain(rule(alloc, statement)))
+        }
+        Place::Managed => add_top(alloc, rules, Top::Managed(managed(alloc, statement))),
+        Place::Group => {
+            rules.inner.push(rule(alloc, statement))?;
+            Ok(())
+        }
+    }
+}
+
+/// The label match of that scope and key.
+fn label_match(alloc: Global, scope: LabelScope, key: &[u8]) -> Result<Statement, Memory> {
+    let key = Text::of(alloc, key)?;
+    Ok(Statement::Label { scope, key })
 }
 
 /// Adds what a field says, by its words; answers whether it said something.
@@ -160,18 +196,16 @@ fn tell(alloc: Global, old: &mut Rules, new: &mut Rules, words: &[&[u8]]) -> Res
     let [side, place, scope, key] = words else {
         return Ok(false);
     };
-    let Some(scope) = scope_of(scope) else {
+    let (Some(side), Some(place), Some(scope)) = (side_of(side), place_of(place), scope_of(scope))
+    else {
         return Ok(false);
     };
-    let statement = Statement::Label {
-        scope,
-        key: Text::of(alloc, key)?,
-    };
-    match *side {
-        b"old" => add(alloc, old, place, statement),
-        b"new" => add(alloc, new, place, statement),
-        _ => Ok(false),
+    let statement = label_match(alloc, scope, key)?;
+    match side {
+        Side::Old => add(alloc, old, place, statement)?,
+        Side::New => add(alloc, new, place, statement)?,
     }
+    Ok(true)
 }
 
 /// Adds what all fields say; answers whether each said something.
