@@ -1,10 +1,8 @@
 pub mod Canonical
-pub mod Counting
 pub mod Different
 pub mod Explores
 pub mod Flattens
 pub mod Grouping
-pub mod Made
 pub mod Marks
 pub mod Meets
 pub mod Merges
@@ -17,6 +15,5 @@ pub mod Rows
 pub mod Runs
 pub mod Sourced
 pub mod Splitting
-pub mod Told
 pub mod Walks
 pub mod Words

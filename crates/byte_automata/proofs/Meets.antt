@@ -15,7 +15,7 @@ use Rattle.byte_automata.specs.Members.{AreDifferent}
 use Rattle.byte_automata.specs.Numbers.{HasNumber}
 use Rattle.byte_automata.specs.Meet.{IsReachablePair, next_pair, Grows, Counts, CountsOn, StopsBy}
 use Rattle.byte_automata.specs.Row.{target, CoversBytes}
-use Rattle.byte_automata.proofs.Counting.{at_least-weaker}
+use Rattle.waf_base.proofs.Counting.{at_least-weaker}
 use Rattle.byte_automata.proofs.Different.{different-none, at_least-listed, at_most-listed}
 use Rattle.byte_automata.proofs.Merges.{number-kept}
 use Rattle.byte_automata.proofs.Runs.{ends-append, ends-within}

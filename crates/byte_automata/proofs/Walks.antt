@@ -1,5 +1,5 @@
 -- The places that an exploration finds, and the states that it makes of them.
-use Rattle.std.proofs.Common.{◌≡◌, ℕ, ◌+◌, ◌-◌, ◌^◌, ◌<◌, ◌≤◌, ◌⊎◌, Bool, false, List, [], ◌∷◌, ◌++◌, Ok, Err, length, get_or, refl, sym, ap, ◌∙◌, subst, inl, inr, arith}
+use Rattle.std.proofs.Common.{◌≡◌, ℕ, ◌+◌, ◌-◌, ◌^◌, ◌<◌, ◌≤◌, ◌⊎◌, Bool, false, List, [], ◌∷◌, ◌++◌, Ok, Err, Result, length, get_or, refl, sym, ap, ◌∙◌, subst, inl, inr, arith}
 use Rattle.std.specs.List.{All}
 use Rattle.std.proofs.lemmas.Bool.{cases_lt}
 use Rattle.std.proofs.lemmas.List.{length-append, length_push, get_or_append_left, get_or_push, get_or_default}
@@ -11,15 +11,16 @@ use Rattle.waf_base.specs.declared.refusal.Stop.TheVariants.{Full, Memory}
 use Rattle.byte_automata.specs.declared.edge.Edge.{Edge}
 use Rattle.byte_automata.specs.declared.state.State.{State}
 use Rattle.byte_automata.specs.Automaton.{IsWhole, next, ends, accepts}
-use Rattle.byte_automata.specs.Makes.{Makes}
+use Rattle.waf_base.specs.Makes.{Makes}
 use Rattle.byte_automata.specs.Members.{AreDifferent}
 use Rattle.byte_automata.specs.Numbers.{HasNumber, Numbers}
 use Rattle.byte_automata.specs.Meet.{Grows, Counts, CountsOn}
 use Rattle.byte_automata.specs.Row.{target, joined, CoversBytes}
-use Rattle.byte_automata.specs.Spending.{KeepsLimit}
+use Rattle.waf_base.specs.Spending.{KeepsLimit}
 use Rattle.byte_automata.specs.Texts.{IsText}
 use Rattle.byte_automata.specs.Walk.{led, IsReached, LedAlike}
-use Rattle.byte_automata.proofs.Counting.{at_least-none}
+use Rattle.waf_base.proofs.Counting.{at_least-none}
+use Rattle.waf_base.proofs.Made.{makes-told}
 use Rattle.byte_automata.proofs.Different.{different-none}
 use Rattle.byte_automata.proofs.Merges.{number-kept, grows-twice, grows-weaker, grows-none}
 use Rattle.byte_automata.proofs.Residuals.{text-none}
@@ -325,3 +326,16 @@ reached-here start after places number place a l is = subst (IsReached start aft
 pub place-here : {P : Type 0} (start : P) (Has : P → Type 0) (before places : List P) (number : ℕ) (r : P) → Grows Has before places → number < length before → r ≡ get_or places number r → r ≡ get_or before number start
 place-here start Has before places number r g l is =
     is ∙ get_or_default places number r start (omega (arith, l, ap length g.1, length-append before g.0)) ∙ ap (λ t. get_or t number start) g.1 ∙ get_or_append_left before g.0 start number l
+
+module _ {P R : Type 0} (start : P) (after : P → ℕ → P) where
+  -- What texts of bytes lead to, counted by texts, is the places that some text leads to, counted themselves.
+  pub makes-places : (result : Result R Stop) (old new : Meter) → Makes (LedAlike start after) IsText result old new → Makes ◌≡◌ (IsReached start after) result old new
+  makes-places =
+      makes-told (LedAlike start after) ◌≡◌ IsText (IsReached start after) (λ text t. led after start text) (λ text t. (text, t, refl)) (λ u v t s e. e) start (λ u v e. sym e) (λ u v w e f. e ∙ f) (λ u v t s e. e)
+      (λ p q r e f. e ∙ f) (λ place r. (r.0, r.1, r.2))
+
+  -- and back
+  pub makes-texts : (result : Result R Stop) (old new : Meter) → Makes ◌≡◌ (IsReached start after) result old new → Makes (LedAlike start after) IsText result old new
+  makes-texts =
+      makes-told ◌≡◌ (LedAlike start after) (IsReached start after) IsText (λ place r. r.0) (λ place r. r.1) (λ p q r s e. sym r.2 ∙ e ∙ s.2) [] (λ p q e. sym e) (λ p q r e f. e ∙ f) (λ p q r s e. r.2 ∙ e ∙ sym s.2)
+      (λ u v w e f. e ∙ f) (λ text t. (led after start text, (text, t, refl), refl))

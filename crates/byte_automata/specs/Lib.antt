@@ -3,7 +3,6 @@ pub mod Classes
 pub mod FirstReach
 pub mod Key
 pub mod Least
-pub mod Makes
 pub mod Meet
 pub mod Members
 pub mod Numbers
@@ -11,7 +10,6 @@ pub mod Places
 pub mod Row
 pub mod Shortest
 pub mod Sources
-pub mod Spending
 pub mod Splitting
 pub mod Texts
 pub mod Walk

@@ -3,7 +3,7 @@
 ghost use Rattle.std.specs.Prelude.{◌≡◌, ◌↔◌, ℕ, List, Result, length};
 ghost use Rattle.byte_automata.specs.Automaton.{Automaton, accepts, ends};
 ghost use Rattle.byte_automata.specs.Least.{IsLeast, SameLanguage};
-ghost use Rattle.byte_automata.specs.Makes.{Makes};
+ghost use Rattle.waf_base.specs.Makes.{Makes};
 ghost use Rattle.byte_automata.specs.Texts.{IsText, SameOnTexts, SameAfter};
 ghost use Rattle.byte_automata.specs.Walk.{IsReached, LedAlike};
 ghost use Rattle.waf_base.specs.Members.{Exactly};

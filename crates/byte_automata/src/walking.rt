@@ -3,7 +3,7 @@
 ghost use Rattle.std.specs.Prelude.{◌≡◌, ◌+◌, ◌<◌, ◌↔◌, true, ℕ, List, length, slice_index_or, IfOk, IfErr, OnOk};
 ghost use Rattle.std.specs.List.{All};
 ghost use Rattle.byte_automata.specs.Automaton.{accepts};
-ghost use Rattle.byte_automata.specs.Makes.{Makes};
+ghost use Rattle.waf_base.specs.Makes.{Makes};
 ghost use Rattle.byte_automata.specs.Meet.{Grows, Counts, CountsOn};
 ghost use Rattle.byte_automata.specs.Members.{AreDifferent};
 ghost use Rattle.byte_automata.specs.Numbers.{HasNumber, Numbers};

@@ -1,7 +1,9 @@
 pub mod Counts
 pub mod Held
 pub mod Holding
+pub mod Makes
 pub mod Members
 pub mod Read
+pub mod Spending
 pub mod Taken
 pub use Rattle.sqlite_items.specs.formers

@@ -1,4 +1,4 @@
-use Rattle.byte_automata.proofs.Made.{makes-places, makes-texts}
+use Rattle.byte_automata.proofs.Walks.{makes-places, makes-texts}
 use Rattle.byte_automata.proofs.laws.texts_count_places.Goals as goal
 
 pub returns : goal.returns

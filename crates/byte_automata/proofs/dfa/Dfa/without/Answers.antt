@@ -3,7 +3,7 @@ use Rattle.std.proofs.lemmas.Result.{IfOk-weaker, IfErr-weaker}
 use Rattle.waf_base.specs.Members.{Exactly}
 use Rattle.byte_automata.specs.Automaton.{ends, flipped}
 use Rattle.byte_automata.specs.Meet.{IsReachablePair, StopsBy}
-use Rattle.byte_automata.proofs.Counting.{exactly-same, at_least-none}
+use Rattle.waf_base.proofs.Counting.{exactly-same, at_least-none}
 use Rattle.byte_automata.proofs.Meets.{pair-other, stops-other}
 use Rattle.byte_automata.proofs.Runs.{flipped-ends}
 use Rattle.byte_automata.proofs.dfa.Dfa.without.Goals as goal

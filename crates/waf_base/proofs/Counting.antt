@@ -1,13 +1,10 @@
 -- Facts on how many different things are of a kind, for any kinds: narrower and wider ones, images, sums and calls in turn.
-use Rattle.std.proofs.Common.{◌≡◌, ℕ, ◌+◌, ◌-◌, ◌<◌, ◌≤◌, ◌⊎◌, List, length, get_or, map, refl, sym, ap, ◌∙◌, subst, inl, inr, arith}
-use Rattle.std.specs.List.{All, range_with_len}
+use Rattle.std.proofs.Common.{◌≡◌, ℕ, ◌+◌, ◌-◌, ◌<◌, ◌≤◌, ◌⊎◌, refl, sym, ap, ◌∙◌, subst, inl, inr, arith}
 use Rattle.std.proofs.lemmas.Bool.{cases_lt}
-use Rattle.std.proofs.lemmas.List.FromFn.{length-map-range_with_len, get_or-map-range_with_len}
 use Rattle.waf_base.specs.Members.{AtLeast, AtMost, Exactly}
 use Rattle.waf_base.specs.declared.meter.Meter.{Meter}
-use Rattle.byte_automata.specs.Members.{AreDifferent}
-use Rattle.byte_automata.specs.Spending.{Unspent, NewlySpent, Spends, Lacks, Leaves}
-use Rattle.byte_automata.proofs.Different.{numbers_below}
+use Rattle.waf_base.specs.Spending.{Unspent, NewlySpent, Spends, Lacks, Leaves}
+use Rattle.waf_base.proofs.Below.{pigeonhole}
 
 module _ {A : Type 0} (Same : A → A → Type 0) where
   -- none
@@ -106,46 +103,42 @@ module _ {A : Type 0} (Same : A → A → Type 0) where
     pub at_most-sum : AtMost Same (n + m) (λ a. K a ⊎ L a)
     at_most-sum = record { member = joined-at x.member y.member n; number = number; below = below; same = same }
 
-  -- at most n are never n + 1
-  module _ (K : A → Type 0) (n : ℕ) (x : AtMost Same n K) (y : AtLeast Same (n + 1) K) where
-    abbrev number-to : (i : ℕ) → (i < n + 1) ⊎ (n + 1 ≤ i) → ℕ
+  -- different things of a kind, each with the number of one that is the same
+  module _ (K : A → Type 0) (m n : ℕ) (x : AtMost Same m K) (y : AtLeast Same n K) where
+    abbrev number-to : (i : ℕ) → (i < n) ⊎ (n ≤ i) → ℕ
     number-to i (inl lt) = x.number (y.member i) (y.of_kind i lt)
     number-to i (inr ge) = 0
 
-    abbrev number-at : ℕ → ℕ
-    number-at i = number-to i (cases_lt i (n + 1))
+    to-below : (i : ℕ) (c : (i < n) ⊎ (n ≤ i)) → i < n → number-to i c < m
+    to-below i (inl lt) l = x.below (y.member i) (y.of_kind i lt)
+    to-below i (inr ge) l = absurd (omega (arith, ge, l))
 
-    abbrev numbers : List ℕ
-    numbers = map number-at (range_with_len 0 (n + 1))
+    to-same : (i : ℕ) (c : (i < n) ⊎ (n ≤ i)) → i < n → Same (x.member (number-to i c)) (y.member i)
+    to-same i (inl lt) l = x.same (y.member i) (y.of_kind i lt)
+    to-same i (inr ge) l = absurd (omega (arith, ge, l))
 
-    number-below : (i : ℕ) (c : (i < n + 1) ⊎ (n + 1 ≤ i)) → i < n + 1 → number-to i c < n
-    number-below i (inl lt) l = x.below (y.member i) (y.of_kind i lt)
-    number-below i (inr ge) l = absurd (omega (arith, ge, l))
+    abbrev pub number-at : ℕ → ℕ
+    number-at i = number-to i (cases_lt i n)
 
-    number-same : (i : ℕ) (c : (i < n + 1) ⊎ (n + 1 ≤ i)) → i < n + 1 → Same (x.member (number-to i c)) (y.member i)
-    number-same i (inl lt) l = x.same (y.member i) (y.of_kind i lt)
-    number-same i (inr ge) l = absurd (omega (arith, ge, l))
+    pub number-below : (i : ℕ) → i < n → number-at i < m
+    number-below i l = to-below i (cases_lt i n) l
 
-    numbers-at : (i d : ℕ) → i < n + 1 → get_or numbers i d ≡ number-at i
-    numbers-at i d l = get_or-map-range_with_len number-at 0 (n + 1) i i d l (omega arith)
+    pub number-same : (i : ℕ) → i < n → Same (x.member (number-at i)) (y.member i)
+    number-same i l = to-same i (cases_lt i n) l
 
-    within : (i : ℕ) → i < length numbers → i < n + 1
-    within i l = omega (arith, l, length-map-range_with_len number-at 0 (n + 1))
+    module _ (symmetric : (a b : A) → Same a b → Same b a) (transitive : (a b c : A) → Same a b → Same b c → Same a c) where
+      pub numbers-apart : (i j : ℕ) → i < j → j < n → number-at i ≡ number-at j → ⊥
+      numbers-apart i j lt l e =
+          y.different i j lt l
+          (transitive (y.member i) (x.member (number-at j)) (y.member j) (symmetric _ _ (subst (λ k. Same (x.member k) (y.member i)) e (number-same i (omega (arith, lt, l))))) (number-same j l))
 
-    all-below : All (λ s. s < n) numbers
-    all-below = λ i d l. subst (λ s. s < n) (sym (numbers-at i d (within i l))) (number-below i (cases_lt i (n + 1)) (within i l))
+      -- at least n are at most m only where n is no more than m
+      pub least-most : n ≤ m
+      least-most = pigeonhole number-at m n number-below numbers-apart
 
-    pub no-more : ((a b : A) → Same a b → Same b a) → ((a b c : A) → Same a b → Same b c → Same a c) → ⊥
-    no-more symmetric transitive =
-        omega (arith, numbers_below n numbers different all-below, length-map-range_with_len number-at 0 (n + 1))
-      where
-        different : AreDifferent numbers
-        different i j d lt l e =
-            let in_j : j < n + 1 = within j l in
-            let in_i : i < n + 1 = omega (arith, lt, in_j) in
-            let one : number-at i ≡ number-at j = sym (numbers-at i d in_i) ∙ e ∙ numbers-at j d in_j in
-            y.different i j lt in_j
-            (transitive (y.member i) (x.member (number-at j)) (y.member j) (symmetric _ _ (subst (λ k. Same (x.member k) (y.member i)) one (number-same i (cases_lt i (n + 1)) in_i))) (number-same j (cases_lt j (n + 1)) in_j))
+  -- at most n are never n + 1
+  pub no-more : (K : A → Type 0) (n : ℕ) → AtMost Same n K → AtLeast Same (n + 1) K → ((a b : A) → Same a b → Same b a) → ((a b c : A) → Same a b → Same b c → Same a c) → ⊥
+  no-more K n x y symmetric transitive = omega (arith, least-most K n (n + 1) x y symmetric transitive)
 
   -- a call after one that ended well
   module _ (IsKind Before Mid : A → Type 0) (kept : (a b : A) → Same a b → Mid a → Mid b) (old mid : Meter) (first : Spends Same IsKind Before Mid old mid) where

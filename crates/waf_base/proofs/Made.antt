@@ -1,14 +1,12 @@
 -- The count of one call, told over other things; and what it says where some things were counted before.
-use Rattle.std.proofs.Common.{◌≡◌, ℕ, ◌+◌, ◌-◌, [], Ok, Err, Result, refl, sym, ◌∙◌}
+use Rattle.std.proofs.Common.{ℕ, ◌+◌, ◌-◌, Ok, Err, Result}
 use Rattle.waf_base.specs.Members.{AtLeast}
 use Rattle.waf_base.specs.declared.meter.Meter.{Meter}
 use Rattle.waf_base.specs.declared.refusal.Stop.{Stop}
 use Rattle.waf_base.specs.declared.refusal.Stop.TheVariants.{Full, Memory}
-use Rattle.byte_automata.specs.Makes.{Makes, MakesAtMost}
-use Rattle.byte_automata.specs.Spending.{Unspent, NewlySpent, Spends, Lacks, Leaves}
-use Rattle.byte_automata.specs.Texts.{IsText}
-use Rattle.byte_automata.specs.Walk.{led, IsReached, LedAlike}
-use Rattle.byte_automata.proofs.Told.{at_least-told, exactly-told}
+use Rattle.waf_base.specs.Makes.{Makes, MakesAtMost}
+use Rattle.waf_base.specs.Spending.{Unspent, NewlySpent, Spends, Lacks, Leaves}
+use Rattle.waf_base.proofs.Told.{at_least-told, exactly-told}
 
 -- just as many are at most as many
 pub makes-at_most : {A R : Type 0} (Same : A → A → Type 0) (Has : A → Type 0) (result : Result R Stop) (old new : Meter) → Makes Same Has result old new → MakesAtMost Same Has result old new
@@ -47,19 +45,6 @@ pub makes-alike : {A R : Type 0} (Same Same' : A → A → Type 0) (Has : A → 
     → (result : Result R Stop) (old new : Meter) → Makes Same Has result old new → Makes Same' Has result old new
 makes-alike Same Same' Has other symmetric transitive transitive' reflexive' alike apart =
     makes-told Same Same' Has Has (λ a h. a) (λ a h. h) (λ a b h k. apart a b h k) other symmetric transitive (λ a b h k. alike a b h k) transitive' (λ b h. (b, h, reflexive' b h))
-
-module _ {P R : Type 0} (start : P) (after : P → ℕ → P) where
-  -- What texts of bytes lead to, counted by texts, is the places that some text leads to, counted themselves.
-  pub makes-places : (result : Result R Stop) (old new : Meter) → Makes (LedAlike start after) IsText result old new → Makes ◌≡◌ (IsReached start after) result old new
-  makes-places =
-      makes-told (LedAlike start after) ◌≡◌ IsText (IsReached start after) (λ text t. led after start text) (λ text t. (text, t, refl)) (λ u v t s e. e) start (λ u v e. sym e) (λ u v w e f. e ∙ f) (λ u v t s e. e)
-      (λ p q r e f. e ∙ f) (λ place r. (r.0, r.1, r.2))
-
-  -- and back
-  pub makes-texts : (result : Result R Stop) (old new : Meter) → Makes ◌≡◌ (IsReached start after) result old new → Makes (LedAlike start after) IsText result old new
-  makes-texts =
-      makes-told ◌≡◌ (LedAlike start after) (IsReached start after) IsText (λ place r. r.0) (λ place r. r.1) (λ p q r s e. sym r.2 ∙ e ∙ s.2) [] (λ p q e. sym e) (λ p q r e f. e ∙ f) (λ p q r s e. r.2 ∙ e ∙ sym s.2)
-      (λ u v w e f. e ∙ f) (λ text t. (led after start text, (text, t, refl), refl))
 
 module _ {A B : Type 0} (Same : A → A → Type 0) (Same' : B → B → Type 0) (K : A → Type 0) (L : B → Type 0) (f : (a : A) → K a → B) (into : (a : A) (k : K a) → L (f a k))
     (apart : (a b : A) (k : K a) (l : K b) → Same' (f a k) (f b l) → Same a b) (other : B) (old new : Meter) where

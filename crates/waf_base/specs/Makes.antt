@@ -4,7 +4,7 @@ use Rattle.waf_base.specs.Members.{AtLeast, Exactly}
 use Rattle.waf_base.specs.declared.meter.Meter.{Meter}
 use Rattle.waf_base.specs.declared.refusal.Stop.{Stop}
 use Rattle.waf_base.specs.declared.refusal.Stop.TheVariants.{Full, Memory}
-use Rattle.byte_automata.specs.Spending.{KeepsLimit}
+use Rattle.waf_base.specs.Spending.{KeepsLimit}
 
 -- What was made, by the answer: just as many nodes as there are different things. Full comes where, and only where,
 -- there are more things than nodes were left at entry, and the meter is full then. After want of memory no more nodes

@@ -1,0 +1,4 @@
+pub mod Below
+pub mod Counting
+pub mod Made
+pub mod Told
