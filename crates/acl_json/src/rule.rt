@@ -7,7 +7,6 @@ ghost use Rattle.statement_json.specs.Statements.{most_statements};
 ghost use Rattle.std.specs.BTreeMap.{keys};
 ghost use Rattle.std.specs.List.{list_any};
 ghost use Rattle.std.specs.Prelude.{◌≡◌, ◌+◌, ◌<◌, ◌≤◌, ◌==◌, IfOk, IsTrue, OnOk, false, not};
-ghost use Rattle.std.specs.Result.{result_map_both};
 ghost use Rattle.waf_model.specs.Cost.{is_limited_top as is_limited_body};
 ghost use Rattle.waf_model.specs.Gives.{Gives};
 ghost use Rattle.waf_model.specs.SoundStatement.{is_sound_statement, is_sound_top as is_sound_body};
@@ -20,7 +19,7 @@ use crate::immunity::immunity;
 use crate::labels::labels;
 use json_view::{copy_of, member, member_path, name_member, whole_member};
 use serde_json::Value;
-use statement_json::{Encoding, TopStatement, action, rule_statement, top_statement};
+use statement_json::{Encoding, TopStatement, action, beside, rule_statement, top_statement};
 use std::alloc::Global;
 use std::collections::BTreeMap;
 use waf_model::{
@@ -196,17 +195,6 @@ fn body_with(name: Text, priority: u32, place: u32, top: TopStatement, parts: Ru
             count: parts.count,
             ..managed
         }),
-    }
-}
-
-// A value beside another, where that was read. It is of any type, so that where the other wasn't read it is let go in one
-// step, and not by each of its parts.
-fn beside<T: Drop, U: Drop>(one: T, other: Result<U, ReadFault>) -> Result<(T, U), ReadFault>
-    ensures { result ≡ result_map_both (λ other. (one, other)) (λ fault. fault) other }
-{
-    match other {
-        Ok(other) => Ok((one, other)),
-        Err(fault) => Err(fault),
     }
 }
 

@@ -25,7 +25,7 @@ use Rattle.waf_model.specs.declared.sets.RegexSet.{RegexSet}
 use Rattle.waf_model.specs.declared.statement.Statement.{Statement}
 use Rattle.waf_model.specs.declared.statement.Statement.TheVariants as statements
 use Rattle.waf_model.specs.declared.transform.Transform.{Transform}
-use Rattle.statement_json.specs.Matches.{arn_at, byte_match_of, byte_match_on, compare_at, cost_of, cost_on, cross_site_of, evaluated_reference, is_high, is_outside, keyed_match, keyed_reference, opaque, opaque_reference, pattern_set_of, pattern_set_on, position_at, regex_at, regex_of, regex_on, search_at, size_at, size_of, size_on, sql_injection_of, target_of, targeted}
+use Rattle.statement_json.specs.Matches.{arn_at, byte_match_of, byte_match_on, compare_at, cost_of, cost_on, cross_site_of, evaluated_reference, is_high, is_outside, keyed_match, keyed_reference, opaque, opaque_reference, pattern_set_of, pattern_set_on, position_at, regex_at, regex_of, regex_on, search_at, size_at, size_of, size_on, sql_base_at, sql_injection_of, target_of, targeted, whole_text}
 use Rattle.statement_json.specs.References.{forwarded_at, ip_set_of, label_match_of, scope_words}
 use Rattle.statement_json.specs.Statements.{leaf, located}
 use Rattle.statement_json.specs.Transforms.{charged, in_order, transforms_at}
@@ -178,9 +178,8 @@ reference_one set arn d cost path limited =
     unless_float (has_float d) path (statements.Opaque (compact_text (keyed_reference set d)) (Some cost) (Some arn)) (one_answer (compact_text (keyed_reference set d)) (Some cost) (Some arn) limited)
 
 evaluated_one : (target : Target) (arn : List ℕ) (d : Data) (path : List ℕ) → KeptTarget target → IfOk (evaluated_reference target arn d path) IsOne
-evaluated_one target arn d path kept =
-    unless_float (has_float d) path (statements.PatternSet arn target.field target.transforms (compact_text d))
-    (record { sound = folded-PatternSet sound_step arn target.field target.transforms (compact_text d) ∙ kept.0; limited = folded-PatternSet limits_step arn target.field target.transforms (compact_text d) ∙ kept.1; one = folded-PatternSet count_step arn target.field target.transforms (compact_text d) })
+evaluated_one target arn d path kept = onward IsOne (whole_text d path) _ (λ source.
+    record { sound = folded-PatternSet sound_step arn target.field target.transforms source ∙ kept.0; limited = folded-PatternSet limits_step arn target.field target.transforms source ∙ kept.1; one = folded-PatternSet count_step arn target.field target.transforms source })
 
 pattern_set_one : (target : Option Target) (set : Option RegexSet) (arn : List ℕ) (d : Data) (cost : ℕ) (path : List ℕ) → IfSome target KeptTarget → LimitedCost (Some cost)
     → IfOk (pattern_set_on target set arn d cost path) IsOne
@@ -212,14 +211,17 @@ label_match_kept d path = onward IsOne (word_at d (codes "Scope") scope_words pa
 
 -- ---- detectors and questions
 
+base_small : (found : Data) (at : List ℕ) → IfOk (sql_base_at found at) (λ base. base ≤ 40)
+unfolding sql_base_at
+base_small found at = onward (λ base. base ≤ 40) (optional_text_at found (codes "SensitivityLevel") at) _ (λ level. injection_small (is_high level))
+
 sql_injection_kept : (d found : Data) (path at : List ℕ) → IfOk (sql_injection_of d found path at) IsOne
 unfolding sql_injection_of
 sql_injection_kept d found path at =
     onward IsOne (field_at found at) _ (λ field.
     onward_with Few IsOne (transforms_at found at) _ (transforms_few found at) (λ listed few.
-    onward IsOne (optional_text_at found (codes "SensitivityLevel") at) _ (λ level.
-    let cost = cost_of (sql_injection_base (is_high level)) field listed in
-    opaque_one d (Some cost) None path (cost_limited (sql_injection_base (is_high level)) field listed (injection_small (is_high level)) few))))
+    onward_with (λ base. base ≤ 40) IsOne (sql_base_at found at) _ (base_small found at) (λ base small.
+    opaque_one d (Some (cost_of base field listed)) None path (cost_limited base field listed small few))))
 
 cross_site_kept : (d found : Data) (path at : List ℕ) → IfOk (cross_site_of d found path at) IsOne
 unfolding cross_site_of

@@ -194,10 +194,13 @@ abbrev pub opaque_reference : Option RegexSet → List ℕ → Data → ℕ → 
 opaque_reference set arn d cost path =
     if has_float d then Err (faults.Number path) else Ok (statements.Opaque (compact_text (keyed_reference set d)) (Some cost) (Some arn))
 
+-- the compact JSON text of a statement, which must not hold a number that isn't whole
+abbrev pub whole_text : Data → List ℕ → Result (List ℕ) ReadFault
+whole_text d path = if has_float d then Err (faults.Number path) else Ok (compact_text d)
+
 -- a reference to that pattern set that is evaluated
 abbrev pub evaluated_reference : Target → List ℕ → Data → List ℕ → Result Statement ReadFault
-evaluated_reference target arn d path =
-    if has_float d then Err (faults.Number path) else Ok (statements.PatternSet arn target.field target.transforms (compact_text d))
+evaluated_reference target arn d path = whole_text d path >>= λ source. Ok (statements.PatternSet arn target.field target.transforms source)
 
 -- a set with a text outside the subset makes each statement that refers to it an answer
 abbrev pub pattern_set_on : Option Target → Option RegexSet → List ℕ → Data → ℕ → List ℕ → Result Statement ReadFault
@@ -220,13 +223,17 @@ abbrev pub is_high : Option (List ℕ) → Bool
 is_high None = false
 is_high (Some level) = bytes_eq level (codes "HIGH")
 
+-- what a test for SQL injection costs at its `SensitivityLevel`
+unfoldable pub sql_base_at : Data → List ℕ → Result ℕ ReadFault
+sql_base_at d path = optional_text_at d (codes "SensitivityLevel") path >>= λ level. Ok (sql_injection_base (is_high level))
+
 -- `SqliMatchStatement`
 unfoldable pub sql_injection_of : Data → Data → List ℕ → List ℕ → Result Statement ReadFault
 sql_injection_of d found path at = do
   field ← field_at found at
   listed ← transforms_at found at
-  level ← optional_text_at found (codes "SensitivityLevel") at
-  opaque d (Some (cost_of (sql_injection_base (is_high level)) field listed)) None path
+  base ← sql_base_at found at
+  opaque d (Some (cost_of base field listed)) None path
 
 -- `XssMatchStatement`
 unfoldable pub cross_site_of : Data → Data → List ℕ → List ℕ → Result Statement ReadFault

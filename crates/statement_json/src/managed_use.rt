@@ -8,6 +8,7 @@ ghost use Rattle.waf_model.specs.Gives.{Gives};
 ghost use Rattle.waf_model.specs.declared.read_fault.ReadFault.TheVariants as read_faults;
 
 use crate::encoding::Encoding;
+use crate::pairing::beside;
 use crate::scope_down::scope_down;
 use json_view::{copy_of, member, member_path, optional_text, text_member};
 use key_text::{unscoped_holds_float, unscoped_key};
@@ -59,8 +60,8 @@ fn managed_of(
     ensures reading { Gives read_faults.Memory (λ managed. (managed, seen.new)) result (managed_in (statement_within part_levels sets.now encoding) (view statement.now) seen.old (view found.now) path.now at.now) }
 {
     let named = managed_name(alloc, found, at)?;
-    let scope_down = scope_down(alloc, sets, encoding, found, at, seen)?;
-    let key = key(alloc, statement, found, path)?;
+    let below = beside(named, scope_down(alloc, sets, encoding, found, at, seen))?;
+    let ((named, scope_down), key) = beside(below, key(alloc, statement, found, path))?;
     Ok(ManagedUse {
         key,
         vendor: named.vendor,

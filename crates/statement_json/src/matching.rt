@@ -11,6 +11,7 @@ ghost use Rattle.waf_model.specs.declared.read_fault.ReadFault.TheVariants as re
 use crate::encoding::Encoding;
 use crate::field::field;
 use crate::opaque::{opaque, opaque_match};
+use crate::pairing::beside;
 use crate::search::{position, search};
 use crate::target::{Target, cost_of, target_of};
 use crate::transforms::transforms;
@@ -44,9 +45,9 @@ pub(crate) fn byte_match(
     ensures { Gives read_faults.Memory (λ statement. statement) result (byte_match_of encoding (view statement.now) (view found.now) path.now at.now) }
 {
     let search = search(alloc, encoding, found, at)?;
-    let field = field(alloc, found, at)?;
-    let listed = transforms(alloc, found, at)?;
-    let position = position(alloc, found, at)?;
+    let search_in = beside(search, field(alloc, found, at))?;
+    let changed = beside(search_in, transforms(alloc, found, at))?;
+    let (((search, field), listed), position) = beside(changed, position(alloc, found, at))?;
     let cost = cost_of(match_base(position), &field, &listed);
     let target = target_of(alloc, field, &listed)?;
     match target {
@@ -83,9 +84,9 @@ pub(crate) fn size_constraint(
     ensures { Gives read_faults.Memory (λ statement. statement) result (size_of (view statement.now) (view found.now) path.now at.now) }
 {
     let field = field(alloc, found, at)?;
-    let op = compare(alloc, found, at)?;
-    let size = size(alloc, found, at)?;
-    let listed = transforms(alloc, found, at)?;
+    let compared = beside(field, compare(alloc, found, at))?;
+    let sized = beside(compared, size(alloc, found, at))?;
+    let (((field, op), size), listed) = beside(sized, transforms(alloc, found, at))?;
     let cost = cost_of(SIZE_BASE, &field, &listed);
     let target = target_of(alloc, field, &listed)?;
     match target {
@@ -154,10 +155,10 @@ pub(crate) fn regex_match(
 {
     let text = regex(alloc, found, at)?;
     let field = field(alloc, found, at)?;
-    let listed = transforms(alloc, found, at)?;
+    let (field, listed) = beside(field, transforms(alloc, found, at))?;
     let cost = cost_of(REGEX_BASE, &field, &listed);
     let target = target_of(alloc, field, &listed)?;
-    let pattern = read_pattern(alloc, text.as_bytes())?;
+    let (target, pattern) = beside(target, read_pattern(alloc, text.as_bytes()))?;
     regex_on(alloc, target, pattern, statement, cost, path)
 }
 

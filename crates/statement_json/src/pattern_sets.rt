@@ -2,7 +2,7 @@
 
 ghost use Rattle.serde_json.specs.View.{view};
 ghost use Rattle.serde_json.specs.Written.{compact_text, has_float};
-ghost use Rattle.statement_json.specs.Matches.{evaluated_reference as evaluated_in, is_outside as is_outside_set, keyed_reference, opaque_reference as opaque_in, pattern_set_of, pattern_set_on as pattern_set_in};
+ghost use Rattle.statement_json.specs.Matches.{evaluated_reference as evaluated_in, is_outside as is_outside_set, keyed_reference, opaque_reference as opaque_in, pattern_set_of, pattern_set_on as pattern_set_in, whole_text as whole_text_of};
 ghost use Rattle.std.specs.Prelude.{◌≡◌, IfOk, Some, false, option_map};
 ghost use Rattle.waf_model.specs.Gives.{Gives};
 ghost use Rattle.waf_model.specs.References.{patterns_of};
@@ -10,6 +10,7 @@ ghost use Rattle.waf_model.specs.declared.read_fault.ReadFault.TheVariants as re
 
 use crate::field::field;
 use crate::matching::arn;
+use crate::pairing::beside;
 use crate::target::{Target, cost_of, target_of};
 use crate::transforms::transforms;
 use json_view::copy_of;
@@ -34,8 +35,8 @@ pub(crate) fn pattern_set(
     ensures { Gives read_faults.Memory (λ statement. statement) result (pattern_set_of sets.now (view statement.now) (view found.now) path.now at.now) }
 {
     let arn = arn(alloc, found, at)?;
-    let field = field(alloc, found, at)?;
-    let listed = transforms(alloc, found, at)?;
+    let tested = beside(arn, field(alloc, found, at))?;
+    let ((arn, field), listed) = beside(tested, transforms(alloc, found, at))?;
     let cost = cost_of(PATTERN_SET_BASE, &field, &listed);
     let target = target_of(alloc, field, &listed)?;
     let set = set_of(sets, &arn);
@@ -122,14 +123,22 @@ fn evaluated_reference(
 ) -> Result<Statement, ReadFault>
     ensures { Gives read_faults.Memory (λ statement. statement) result (evaluated_in target arn (view statement.now) path.now) }
 {
-    if holds_float(statement) {
-        return Err(ReadFault::Number(copy_of(alloc, path)?));
-    }
-    let source = statement_key(alloc, statement)?;
+    let source = whole_text(alloc, statement, path);
+    let ((target, arn), source) = beside((target, arn), source)?;
     Ok(Statement::PatternSet {
         arn,
         field: target.field,
         transforms: target.transforms,
         source,
     })
+}
+
+// The compact JSON text of a statement, which must not hold a number that isn't whole.
+fn whole_text(alloc: Global, statement: &Value, path: &Text) -> Result<Text, ReadFault>
+    ensures { Gives read_faults.Memory (λ text. text) result (whole_text_of (view statement.now) path.now) }
+{
+    if holds_float(statement) {
+        return Err(ReadFault::Number(copy_of(alloc, path)?));
+    }
+    Ok(statement_key(alloc, statement)?)
 }
