@@ -11,7 +11,8 @@ ghost use Rattle.wafreview_run.specs.ImpactDue.{ImpactDue, ReplayDue};
 ghost use Rattle.wafreview_run.specs.ImpactText.{changed_code, impact_text};
 
 use crate::impact_text::write_impact;
-use crate::refusal::{refused, refused_at};
+use crate::letting_go::let_go;
+use crate::refusal::{refusal, refused, refused_at};
 use crate::report::Report;
 use crate::reports::{given_answers, none_answered};
 use crate::role::Role;
@@ -46,8 +47,12 @@ fn replayed(
     ensures { IfOk result (λ report. ReplayDue old.now new.now (log_reading log.now) (Ok answers.now) report.code report.text) }
 {
     match replay(alloc, old, new, log, answers) {
-        Ok(impact) => told(alloc, &impact),
-        Err(ReplayFault::Line { number, fault }) => refused_at(alloc, number, &fault),
+        Ok(impact) => {
+            let report = told(alloc, &impact);
+            let_go(impact);
+            report
+        }
+        Err(ReplayFault::Line { number, fault }) => refused_at(alloc, number, fault),
         Err(ReplayFault::Memory) => Err(Memory),
     }
 }
@@ -64,9 +69,15 @@ fn answers_refused(
     requires new_whole { IsWhole new.now }
     ensures { IfOk result (λ report. ReplayDue old.now new.now (log_reading log.now) (Err fault.now) report.code report.text) }
 {
-    match replay(alloc, old, new, log, &none_answered(alloc)) {
-        Ok(_) => refused(alloc, Role::Answers, fault),
-        Err(ReplayFault::Line { number, fault }) => refused_at(alloc, number, &fault),
+    let unanswered = none_answered(alloc);
+    let impact = replay(alloc, old, new, log, &unanswered);
+    let_go(unanswered);
+    match impact {
+        Ok(impact) => {
+            let_go(impact);
+            refused(alloc, Role::Answers, fault)
+        }
+        Err(ReplayFault::Line { number, fault }) => refused_at(alloc, number, fault),
         Err(ReplayFault::Memory) => Err(Memory),
     }
 }
@@ -84,10 +95,38 @@ fn compared(
     ensures { IfOk result (λ report. ReplayDue old.now new.now (log_reading log.now) (given_reading (option_map (λ bytes. bytes.now) answers.entry)) report.code report.text) }
 {
     match given_answers(alloc, answers) {
-        Ok(answers) => replayed(alloc, old, new, log, &answers),
+        Ok(answers) => {
+            let report = replayed(alloc, old, new, log, &answers);
+            let_go(answers);
+            report
+        }
         Err(ReadFault::Memory) => Err(Memory),
-        Err(fault) => answers_refused(alloc, old, new, log, &fault),
+        Err(fault) => {
+            let report = answers_refused(alloc, old, new, log, &fault);
+            let_go(fault);
+            report
+        }
     }
+}
+
+/// What is due for a bundle and the bytes of its next revision, of a log and of answers.
+fn compared_with(
+    alloc: Global,
+    old: &Bundle,
+    new: &[u8],
+    log: &[u8],
+    answers: Option<&[u8]>,
+) -> Result<Report, Memory>
+    requires whole { IsWhole old.now }
+    ensures { IfOk result (λ report. ImpactDue (Ok old.now) (bundle_reading new.now) (log_reading log.now) (given_reading (option_map (λ bytes. bytes.now) answers.entry)) report.code report.text) }
+{
+    let new = match read_bundle(alloc, new) {
+        Ok(bundle) => bundle,
+        Err(fault) => return refusal(alloc, Role::New, fault),
+    };
+    let report = compared(alloc, old, &new, log, answers);
+    let_go(new);
+    report
 }
 
 /// What is due for `impact` on the bytes of two bundles, of a log and of answers, where a file of them is named.
@@ -102,11 +141,9 @@ pub(crate) fn impact_report(
 {
     let old = match read_bundle(alloc, old) {
         Ok(bundle) => bundle,
-        Err(fault) => return refused(alloc, Role::Old, &fault),
+        Err(fault) => return refusal(alloc, Role::Old, fault),
     };
-    let new = match read_bundle(alloc, new) {
-        Ok(bundle) => bundle,
-        Err(fault) => return refused(alloc, Role::New, &fault),
-    };
-    compared(alloc, &old, &new, log, answers)
+    let report = compared_with(alloc, &old, new, log, answers);
+    let_go(old);
+    report
 }

@@ -8,6 +8,7 @@ mod impact_report;
 mod impact_text;
 mod keys_text;
 mod laws;
+mod letting_go;
 mod named_files;
 mod refusal;
 mod replaying;

@@ -6,6 +6,7 @@ ghost use Rattle.wafreview_run.specs.Refusal.{IsLineRefused, IsRefused};
 ghost use Rattle.wafreview_run.specs.Texts.{fault_text, role_name, refused_line_text, refused_text};
 
 use crate::decimal::push_decimal;
+use crate::letting_go::let_go;
 use crate::report::Report;
 use crate::role::{Role, role_word};
 use std::alloc::Global;
@@ -25,13 +26,25 @@ pub(crate) fn refused(alloc: Global, role: Role, fault: &ReadFault) -> Result<Re
     })
 }
 
-/// The report of a log whose line of that number has a fault; want of memory is no fault of the line.
-pub(crate) fn refused_at(alloc: Global, number: u64, fault: &ReadFault) -> Result<Report, Memory>
-    ensures { IfOk result (λ report. IsLineRefused number fault.now report.code report.text) }
+/// The report of a reading that failed; want of memory is no fault of the text.
+pub(crate) fn refusal(alloc: Global, role: Role, fault: ReadFault) -> Result<Report, Memory>
+    ensures refused { IfOk result (λ report. IsRefused role fault report.code report.text) }
+    ensures memory { IfOk result (λ _. fault ≢ faults.Memory) }
 {
+    let report = refused(alloc, role, &fault);
+    let_go(fault);
+    report
+}
+
+/// The report of a log whose line of that number has a fault; want of memory is no fault of the line.
+pub(crate) fn refused_at(alloc: Global, number: u64, fault: ReadFault) -> Result<Report, Memory>
+    ensures { IfOk result (λ report. IsLineRefused number fault report.code report.text) }
+{
+    let text = refused_line_at(alloc, number, &fault);
+    let_go(fault);
     Ok(Report {
         code: 3,
-        text: refused_line_at(alloc, number, fault)?,
+        text: text?,
     })
 }
 
@@ -39,8 +52,7 @@ pub(crate) fn refused_at(alloc: Global, number: u64, fault: &ReadFault) -> Resul
 pub(crate) fn not_built(alloc: Global, role: Role, path: Text) -> Result<Report, Memory>
     ensures { IfOk result (λ report. IsRefused role (faults.NotBuilt path) report.code report.text) }
 {
-    let report = refused(alloc, role, &ReadFault::NotBuilt(path))?;
-    Ok(report)
+    refusal(alloc, role, ReadFault::NotBuilt(path))
 }
 
 /// The line of a text with a fault.

@@ -14,7 +14,8 @@ ghost use Rattle.wafreview_run.specs.ReviewText.{review_text, review_code};
 ghost use Rattle.request_parts.specs.RequestReading.{request_reading};
 
 use crate::keys_text::write_keys;
-use crate::refusal::{not_built, refused};
+use crate::letting_go::let_go;
+use crate::refusal::{not_built, refusal};
 use crate::report::Report;
 use crate::review_text::write_review;
 use crate::role::Role;
@@ -68,8 +69,9 @@ fn evaluated(
     ensures { IfOk result (λ report. IsEvaluated bundle.now request.now answers.now report.code report.text) }
 {
     let outcome = evaluate(alloc, bundle, request, answers)?;
-    let text = write_outcome(alloc, &outcome, &capacity(bundle))?;
-    Ok(done(text))
+    let text = write_outcome(alloc, &outcome, &capacity(bundle));
+    let_go(outcome);
+    Ok(done(text?))
 }
 
 /// What is due for `evaluate` on a bundle, a request and the bytes of answers.
@@ -84,9 +86,11 @@ fn answered_report(
 {
     let answers = match given_answers(alloc, answers) {
         Ok(answers) => answers,
-        Err(fault) => return refused(alloc, Role::Answers, &fault),
+        Err(fault) => return refusal(alloc, Role::Answers, fault),
     };
-    evaluated(alloc, bundle, request, &answers)
+    let report = evaluated(alloc, bundle, request, &answers);
+    let_go(answers);
+    report
 }
 
 /// What is due for `evaluate` on a bundle and the bytes of a request and of answers.
@@ -101,9 +105,11 @@ fn requested_report(
 {
     let request = match read_request(alloc, request) {
         Ok(request) => request,
-        Err(fault) => return refused(alloc, Role::Request, &fault),
+        Err(fault) => return refusal(alloc, Role::Request, fault),
     };
-    answered_report(alloc, bundle, &request, answers)
+    let report = answered_report(alloc, bundle, &request, answers);
+    let_go(request);
+    report
 }
 
 /// What is due for `evaluate` on the bytes of a bundle, of a request and of answers, where a file of them is named.
@@ -117,9 +123,11 @@ pub(crate) fn evaluation_report(
 {
     let bundle = match read_bundle(alloc, bundle) {
         Ok(bundle) => bundle,
-        Err(fault) => return refused(alloc, Role::Bundle, &fault),
+        Err(fault) => return refusal(alloc, Role::Bundle, fault),
     };
-    requested_report(alloc, &bundle, request, answers)
+    let report = requested_report(alloc, &bundle, request, answers);
+    let_go(bundle);
+    report
 }
 
 /// The keys of the bundle's questions.
@@ -137,9 +145,11 @@ pub(crate) fn keys_report(alloc: Global, bundle: &[u8]) -> Result<Report, Memory
 {
     let bundle = match read_bundle(alloc, bundle) {
         Ok(bundle) => bundle,
-        Err(fault) => return refused(alloc, Role::Bundle, &fault),
+        Err(fault) => return refusal(alloc, Role::Bundle, fault),
     };
-    listed(alloc, &bundle)
+    let report = listed(alloc, &bundle);
+    let_go(bundle);
+    report
 }
 
 /// What is due for `capacity` on the bytes of a bundle.
@@ -148,10 +158,11 @@ pub(crate) fn capacity_report(alloc: Global, bundle: &[u8]) -> Result<Report, Me
 {
     let bundle = match read_bundle(alloc, bundle) {
         Ok(bundle) => bundle,
-        Err(fault) => return refused(alloc, Role::Bundle, &fault),
+        Err(fault) => return refusal(alloc, Role::Bundle, fault),
     };
-    let text = capacity_text(alloc, &bundle)?;
-    Ok(done(text))
+    let text = capacity_text(alloc, &bundle);
+    let_go(bundle);
+    Ok(done(text?))
 }
 
 /// The capacity of the bundle's web ACL, as a line.
@@ -188,7 +199,11 @@ fn reviewed(alloc: Global, old: &Bundle, new: &Bundle) -> Result<Report, Memory>
 {
     let mut meter = Meter::new(0);
     match review(alloc, old, new, &mut meter) {
-        Ok(answer) => answer_report(alloc, &answer),
+        Ok(answer) => {
+            let report = answer_report(alloc, &answer);
+            let_go(answer);
+            report
+        }
         Err(_) => Err(Memory),
     }
 }
@@ -208,17 +223,29 @@ fn plain_report(alloc: Global, old: &Bundle, new: &Bundle) -> Result<Report, Mem
     reviewed(alloc, old, new)
 }
 
+/// What is due for `review` on a bundle and the bytes of its next revision.
+fn review_with(alloc: Global, old: &Bundle, new: &[u8]) -> Result<Report, Memory>
+    requires whole { IsWhole old.now }
+    ensures { IfOk result (λ report. ReviewDue (Ok old.now) (bundle_reading new.now) report.code report.text) }
+{
+    let new = match read_bundle(alloc, new) {
+        Ok(bundle) => bundle,
+        Err(fault) => return refusal(alloc, Role::New, fault),
+    };
+    let report = plain_report(alloc, old, &new);
+    let_go(new);
+    report
+}
+
 /// What is due for `review` on the bytes of two bundles.
 pub(crate) fn review_report(alloc: Global, old: &[u8], new: &[u8]) -> Result<Report, Memory>
     ensures { IfOk result (λ report. ReviewDue (bundle_reading old.now) (bundle_reading new.now) report.code report.text) }
 {
     let old = match read_bundle(alloc, old) {
         Ok(bundle) => bundle,
-        Err(fault) => return refused(alloc, Role::Old, &fault),
+        Err(fault) => return refusal(alloc, Role::Old, fault),
     };
-    let new = match read_bundle(alloc, new) {
-        Ok(bundle) => bundle,
-        Err(fault) => return refused(alloc, Role::New, &fault),
-    };
-    plain_report(alloc, &old, &new)
+    let report = review_with(alloc, &old, new);
+    let_go(old);
+    report
 }
