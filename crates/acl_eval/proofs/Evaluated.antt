@@ -5,7 +5,7 @@ use Rattle.std.specs.Cmp.Lexicographic.{slice_cmp}
 use Rattle.std.specs.Ordering.{is_lt, nat_cmp}
 use Rattle.acl_eval.specs.Walk.{IsWalked, IsWalk}
 use Rattle.acl_eval.specs.declared.case.End.{End}
-use Rattle.acl_eval.proofs.Among.{none_among}
+use Rattle.waf_laws.proofs.Among.{none_among}
 use Rattle.acl_eval.proofs.Apart.{before_differ}
 use Rattle.acl_eval.proofs.Firings.{none_at_all}
 use Rattle.acl_eval.proofs.Lists.{parted, taken_more}

@@ -1,11 +1,8 @@
-mod Among
 mod Apart
 mod Evaluated
 mod Firings
 mod Grouped
 mod Lists
-mod Matching
-mod OneOutcome
 mod OneStep
 mod Places
 mod Readied

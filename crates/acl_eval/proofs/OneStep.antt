@@ -3,9 +3,9 @@ use Rattle.std.proofs.Common.{◌≡◌, ℕ, ◌↔◌, ◌⊎◌, List, [], �
 use Rattle.acl_eval.specs.Trying.{IsTried, HasMatched, with_labels}
 use Rattle.acl_eval.specs.Walk.{IsWalked, IsWalk}
 use Rattle.acl_eval.specs.declared.case.End.{End}
-use Rattle.acl_eval.proofs.Among.{some_from, some_to_old, some_to_new}
+use Rattle.waf_laws.proofs.Among.{some_from, some_to_old, some_to_new}
 use Rattle.acl_eval.proofs.Firings.{none_more, passes_by, still_open, seen_more, undecided, no_end}
-use Rattle.acl_eval.proofs.Matching.{matches_same}
+use Rattle.waf_laws.proofs.Matching.{matches_same}
 use Rattle.waf_model.specs.Firing.{Ended, Fires, Seen, Matches, end_of_tried, labels_of_tried}
 use Rattle.waf_model.specs.LabelMatch.{IsAmong}
 use Rattle.waf_model.specs.Outcome.{Decides}

@@ -1,4 +1,4 @@
-use Rattle.acl_eval.proofs.OneOutcome.{one_outcome_is}
+use Rattle.waf_laws.proofs.OneOutcome.{one_outcome_is}
 use Rattle.acl_eval.proofs.laws.one_outcome.Goals as goal
 
 pub returns : goal.returns
