@@ -1,0 +1,1 @@
+"""Tools beside the proved program `wafreview`: the way from what users have to an answer that they can act on."""
