@@ -208,7 +208,7 @@ def main():
             fcntl.flock(lock, fcntl.LOCK_EX)
         builder = Builder(used, lock)
         say(f"proving and building {len(used)} crates, {builder.lanes} at a time")
-        say("from nothing this takes 15 to 60 minutes on 4 processors; what stands proved is kept")
+        say("from nothing this takes 25 to 45 minutes on 4 processors; what stands proved is kept")
         try:
             failed = builder.build()
         except KeyboardInterrupt:
