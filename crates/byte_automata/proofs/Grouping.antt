@@ -9,12 +9,12 @@ use Rattle.byte_automata.specs.declared.kind.Kind.{Kind}
 use Rattle.byte_automata.specs.declared.row_step.RowStep.{RowStep}
 use Rattle.byte_automata.specs.Automaton.{Automaton}
 use Rattle.byte_automata.specs.Classes.{class_row, Spells}
-use Rattle.byte_automata.specs.Meet.{Grows}
+use Rattle.byte_automata.specs.Grows.{Grows}
 use Rattle.byte_automata.specs.Members.{AreDifferent}
 use Rattle.byte_automata.specs.Numbers.{HasNumber, Numbers}
 use Rattle.byte_automata.specs.Splitting.{AreGroups}
 use Rattle.byte_automata.proofs.Different.{same_place}
-use Rattle.byte_automata.proofs.Merges.{number-kept}
+use Rattle.byte_automata.proofs.Grown.{number-kept}
 
 -- ---- the spelling of rows
 pub spells-kept : (base : ℕ) (steps more : List RowStep) (class : ℕ) (edges : List Edge) (id : ℕ) → Spells base steps class edges id → Spells base (steps ++ more) class edges id

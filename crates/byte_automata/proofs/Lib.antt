@@ -3,9 +3,9 @@ pub mod Different
 pub mod Explores
 pub mod Flattens
 pub mod Grouping
+pub mod Grown
 pub mod Marks
 pub mod Meets
-pub mod Merges
 pub mod Numbered
 pub mod Parting
 pub mod Redirects

@@ -1,11 +1,11 @@
 -- Facts on the edges of one state.
-use Rattle.std.proofs.Common.{◌≡◌, ℕ, suc, ◌+◌, ◌<◌, ◌≤◌, true, false, cond, leb, eqb, List, [], ◌∷◌, ◌++◌, ◌⊎◌, length, drop, get_or, refl, sym, ap, ◌∙◌, subst, inl, inr, arith}
-use Rattle.std.specs.List.{All}
+use Rattle.std.proofs.Common.{◌≡◌, ℕ, zero, suc, ◌+◌, ◌<◌, ◌≤◌, true, false, cond, leb, eqb, List, [], ◌∷◌, ◌++◌, ◌⊎◌, length, drop, get_or, refl, sym, ap, ◌∙◌, subst, inl, inr, arith}
+use Rattle.std.specs.List.{All, AllWithin}
 use Rattle.std.proofs.lemmas.Bool.{le-leb, lt-leb, cases_lt, cases_eq, cases_Bool, eqb-false, eq-eqb, ne_eqb, cond_both}
 use Rattle.std.proofs.lemmas.List.{append_assoc, append-nil, drop_more, drop_all}
 use Rattle.std.proofs.lemmas.List.Elements.{All-head, All-tail, All-cons, All-push, All-weaker}
 use Rattle.byte_automata.specs.declared.edge.Edge.{Edge}
-use Rattle.byte_automata.specs.Row.{target_after, target, CoversFrom, CoversBytes, IsJoined, renamed, joined}
+use Rattle.byte_automata.specs.Row.{target_after, target, CoversFrom, CoversBytes, IsEdgeOf, IsJoined, renamed, joined}
 
 -- where the edges lead within n states, so does the state that a byte leads to
 pub target_after-within : (n before : ℕ) (edges : List Edge) (byte : ℕ) → before < n → All (λ e. e.to < n) edges → target_after before edges byte < n
@@ -285,3 +285,39 @@ pub target-renamed : (name : ℕ → ℕ) (edges : List Edge) (byte : ℕ) → C
 target-renamed name [] byte c = absurd (omega (arith, c))
 target-renamed name (e ∷ es) byte c =
     target_after-joined 0 0 (renamed name (e ∷ es)) byte (covers-renamed name 0 (e ∷ es) c) ∙ target_after-renamed name 0 (e ∷ es) byte
+
+-- the last bytes of edges rise
+pub last-rises : (low : ℕ) (edges : List Edge) → CoversFrom low edges → (i j : ℕ) (d : Edge) → i ≤ j → j < length edges → (get_or edges i d).last ≤ (get_or edges j d).last
+last-rises low [] c i j d l m = absurd (omega (arith, m))
+last-rises low (e ∷ es) c zero zero d l m = omega arith
+last-rises low (e ∷ []) c zero (suc j) d l m = absurd (omega (arith, m))
+last-rises low (e ∷ x ∷ xs) c zero (suc j) d l m = omega (arith, c.1.0, last-rises (e.last + 1) (x ∷ xs) c.1 0 j d (omega arith) (omega (arith, m)))
+last-rises low (e ∷ es) c (suc i) zero d l m = absurd (omega (arith, l))
+last-rises low (e ∷ es) c (suc i) (suc j) d l m = last-rises (e.last + 1) es c.1 i j d (omega (arith, l)) (omega (arith, m))
+
+-- some edge of those that cover the bytes goes up to a byte
+some-edge : (low : ℕ) (edges : List Edge) (byte place : ℕ) → low ≤ 255 → byte ≤ 255 → CoversFrom low edges → AllWithin (λ e. e.last < byte) edges 0 place → place ≤ length edges → place < length edges
+some-edge low [] byte place l b c a p = absurd (omega (arith, l, c))
+some-edge low (e ∷ es) byte zero l b c a p = omega arith
+some-edge low (e ∷ []) byte (suc place) l b c a p = absurd (omega (arith, c.1, b, a 0 e (omega arith) (omega arith)))
+some-edge low (e ∷ x ∷ xs) byte (suc place) l b c a p =
+    let m : e.last + 1 ≤ 255 = omega (arith, c.1.0, covers-bounds (e.last + 1) x xs c.1) in
+    omega (arith, some-edge (e.last + 1) (x ∷ xs) byte place m b c.1 (λ k d lo hi. a (suc k) d (omega arith) (omega (arith, hi))) (omega (arith, p)))
+
+pub edge-found : (edges : List Edge) (byte place : ℕ) → byte ≤ 255 → CoversBytes edges → place ≤ length edges → AllWithin (λ e. e.last < byte) edges 0 place → AllWithin (λ e. byte ≤ e.last) edges place (length edges) → IsEdgeOf edges byte place
+edge-found edges byte place b c p below above = (some-edge 0 edges byte place (omega arith) b c below p, below, above)
+
+target-found : (before : ℕ) (edges : List Edge) (byte place : ℕ) (d : Edge) → place < length edges → AllWithin (λ e. e.last < byte) edges 0 place → byte ≤ (get_or edges place d).last → target_after before edges byte ≡ (get_or edges place d).to
+target-found before [] byte place d l a h = absurd (omega (arith, l))
+target-found before (e ∷ es) byte zero d l a h = target_after-first before e es byte h
+target-found before (e ∷ es) byte (suc place) d l a h =
+    target_after-past before e es byte (a 0 d (omega arith) (omega arith)) ∙ target-found e.to es byte place d (omega (arith, l)) (λ k d' lo hi. a (suc k) d' (omega arith) (omega (arith, hi))) h
+
+-- the byte leads along its edge
+pub target-at : (edges : List Edge) (byte place : ℕ) (d : Edge) → IsEdgeOf edges byte place → target edges byte ≡ (get_or edges place d).to
+target-at edges byte place d is = target-found 0 edges byte place d is.0 is.1 (is.2 place d (omega arith) is.0)
+
+-- and so does each byte from it up to the edge's last
+pub target-run : (edges : List Edge) (byte place : ℕ) (d : Edge) → IsEdgeOf edges byte place → (other : ℕ) → byte ≤ other → other ≤ (get_or edges place d).last → target edges other ≡ target edges byte
+target-run edges byte place d is other l m =
+    target-found 0 edges other place d is.0 (λ k d' lo hi. omega (arith, is.1 k d' lo hi, l)) m ∙ sym (target-at edges byte place d is)

@@ -14,7 +14,7 @@ use Rattle.byte_automata.specs.Automaton.{IsWhole, next, ends, accepts}
 use Rattle.waf_base.specs.Makes.{Makes}
 use Rattle.byte_automata.specs.Members.{AreDifferent}
 use Rattle.byte_automata.specs.Numbers.{HasNumber, Numbers}
-use Rattle.byte_automata.specs.Meet.{Grows, Counts, CountsOn}
+use Rattle.byte_automata.specs.Grows.{Grows, Counts, CountsOn}
 use Rattle.byte_automata.specs.Row.{target, joined, CoversBytes}
 use Rattle.waf_base.specs.Spending.{KeepsLimit}
 use Rattle.byte_automata.specs.Texts.{IsText}
@@ -22,7 +22,7 @@ use Rattle.byte_automata.specs.Walk.{led, IsReached, LedAlike}
 use Rattle.waf_base.proofs.Counting.{at_least-none}
 use Rattle.waf_base.proofs.Made.{makes-told}
 use Rattle.byte_automata.proofs.Different.{different-none}
-use Rattle.byte_automata.proofs.Merges.{number-kept, grows-twice, grows-weaker, grows-none}
+use Rattle.byte_automata.proofs.Grown.{number-kept, grows-twice, grows-weaker, grows-none}
 use Rattle.byte_automata.proofs.Residuals.{text-none}
 use Rattle.byte_automata.proofs.Rows.{RowUpTo, upto-none, upto-weaker, upto-push, upto-all, target_after-joined, covers-joined, targets-joined}
 

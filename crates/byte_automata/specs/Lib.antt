@@ -1,6 +1,7 @@
 pub mod Automaton
 pub mod Classes
 pub mod FirstReach
+pub mod Grows
 pub mod Key
 pub mod Least
 pub mod Meet

@@ -1,5 +1,6 @@
 -- The edges of one state as a list: where a byte leads, and that they cover all bytes (this project's own).
-use Rattle.std.specs.Prelude.{ℕ, ◌≡◌, ◌≢◌, ◌+◌, ◌≤◌, List, [], ◌∷◌, nat_eq, nat_le, if◌then◌else◌}
+use Rattle.std.specs.Prelude.{ℕ, ◌≡◌, ◌≢◌, ◌+◌, ◌<◌, ◌≤◌, List, [], ◌∷◌, length, nat_eq, nat_le, if◌then◌else◌}
+use Rattle.std.specs.List.{AllWithin}
 use Rattle.byte_automata.specs.declared.edge.Edge.{Edge}
 
 -- the state that a byte leads to along the first edge whose last byte is no less; where there is none it is the one
@@ -20,6 +21,11 @@ CoversFrom low (edge ∷ edges) = (low ≤ edge.last) × CoversFrom (edge.last +
 -- the edges cover all bytes
 abbrev pub CoversBytes : List Edge → Type 0
 CoversBytes edges = CoversFrom 0 edges
+
+-- the edge at the place is the first whose last byte is no less than the byte
+abbrev pub IsEdgeOf : List Edge → ℕ → ℕ → Type 0
+IsEdgeOf edges byte place =
+    (place < length edges) × AllWithin (λ edge. edge.last < byte) edges 0 place × AllWithin (λ edge. byte ≤ edge.last) edges place (length edges)
 
 -- no two neighbouring edges lead to one state
 abbrev pub IsJoined : List Edge → Type 0

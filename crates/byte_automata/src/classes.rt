@@ -21,7 +21,9 @@ pub(crate) struct Classes {
 
 /// Two states are of one class exactly where they accept the same texts from there on. Classes that wait split the
 /// states from which bytes lead into them, and all parts of a class but the largest wait in their turn, so each state
-/// waits at most as often as the size of its class can be halved.
+/// waits at most as often as the size of its class can be halved. Each time a state that an edge leads to waits, the whole
+/// row of the edge's state is gone through: the work is at most the sum of the squares of the states' numbers of edges,
+/// times these halvings.
 pub(crate) fn residual_classes(alloc: Global, dfa: &Dfa) -> Result<Classes, Memory>
     ensures classes { IfOk result (λ classes. AreResidualClasses dfa.now classes.of.items) }
     ensures below { IfOk result (λ classes. All (λ class. class < classes.count) classes.of.items) }

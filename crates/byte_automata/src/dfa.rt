@@ -6,7 +6,7 @@ ghost use Rattle.std.specs.List.{All};
 use crate::edge::Edge;
 use crate::flip::flip_all;
 use crate::renumbered::push_state;
-use crate::row::target_of;
+use crate::row::{run_end_of, target_of};
 use crate::state::State;
 use sqlite_items::Items;
 use std::alloc::Global;
@@ -84,6 +84,16 @@ impl Dfa {
         ensures within { result < length self.now.states }
     {
         target_of(self.edges_of(state), byte)
+    }
+
+    /// The last byte of the run in which the byte stands: each byte from it up to there leads from the state where it
+    /// leads.
+    pub fn run_end(&self, state: u32, byte: u8) -> u8
+        requires { state < length self.now.states }
+        ensures within { byte ≤ result }
+        ensures alike { (other : ℕ) → byte ≤ other → other ≤ result → next self.now state other ≡ next self.now state byte }
+    {
+        run_end_of(self.edges_of(state), byte)
     }
 
     /// The automaton accepts the text: from the start state, the edges of its bytes lead to an accepting state.

@@ -4,7 +4,7 @@ ghost use Rattle.std.specs.Prelude.{◌≡◌, ◌<◌, ℕ, reverse, length, sl
 ghost use Rattle.std.specs.List.{All};
 ghost use Rattle.byte_automata.specs.Classes.{Spells, AreClasses};
 ghost use Rattle.byte_automata.specs.Splitting.{AreGroups};
-ghost use Rattle.byte_automata.specs.Meet.{Grows};
+ghost use Rattle.byte_automata.specs.Grows.{Grows};
 ghost use Rattle.byte_automata.specs.Members.{AreDifferent};
 
 use crate::dfa::Dfa;

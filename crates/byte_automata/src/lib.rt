@@ -17,6 +17,7 @@ mod marking;
 mod meet;
 mod number_list;
 mod numbering;
+mod pairs;
 mod parts;
 mod redirected;
 mod renumbered;
@@ -30,7 +31,6 @@ mod state;
 mod state_pair;
 mod walk;
 mod walking;
-mod without;
 
 pub use builder::Builder;
 pub use dfa::Dfa;

@@ -1,25 +1,36 @@
 //! The edges of one state.
 
-ghost use Rattle.std.specs.Prelude.{◌≡◌, ◌<◌, length, slice_index, IfOk};
+ghost use Rattle.std.specs.Prelude.{◌≡◌, ◌<◌, ◌≤◌, ℕ, length, slice_index, IfOk};
 ghost use Rattle.std.specs.List.{All};
-ghost use Rattle.byte_automata.specs.Row.{target, renamed, joined};
+ghost use Rattle.byte_automata.specs.Row.{CoversBytes, IsEdgeOf, target, renamed, joined};
 
 use crate::edge::Edge;
 use std::alloc::Global;
 use waf_base::Memory;
 
-/// The state that the byte leads to: along the first edge whose last byte is no less.
+/// The place of the edge along which the byte leads: the first whose last byte is no less. It is found by halving.
+fn place_of(edges: &[Edge], byte: u8) -> usize
+    requires { CoversBytes edges.now }
+    ensures { IsEdgeOf edges.now byte result }
+{
+    edges.partition_point(|edge| edge.last < byte)
+}
+
+/// The state that the byte leads to.
 pub(crate) fn target_of(edges: &[Edge], byte: u8) -> u32
+    requires { CoversBytes edges.now }
     ensures { result ≡ target edges.now byte }
 {
-    let mut to = 0;
-    for edge in edges {
-        to = edge.to;
-        if byte <= edge.last {
-            return to;
-        }
-    }
-    to
+    edges[place_of(edges, byte)].to
+}
+
+/// The last byte of the run in which the byte stands: each byte from it up to there leads where it leads.
+pub(crate) fn run_end_of(edges: &[Edge], byte: u8) -> u8
+    requires { CoversBytes edges.now }
+    ensures within { byte ≤ result }
+    ensures alike { (other : ℕ) → byte ≤ other → other ≤ result → target edges.now other ≡ target edges.now byte }
+{
+    edges[place_of(edges, byte)].last
 }
 
 /// The edges with each target renamed, where neighbours that then lead to one state are one edge.

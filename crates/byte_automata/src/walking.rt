@@ -4,7 +4,7 @@ ghost use Rattle.std.specs.Prelude.{◌≡◌, ◌+◌, ◌<◌, ◌↔◌, true
 ghost use Rattle.std.specs.List.{All};
 ghost use Rattle.byte_automata.specs.Automaton.{accepts};
 ghost use Rattle.waf_base.specs.Makes.{Makes};
-ghost use Rattle.byte_automata.specs.Meet.{Grows, Counts, CountsOn};
+ghost use Rattle.byte_automata.specs.Grows.{Grows, Counts, CountsOn};
 ghost use Rattle.byte_automata.specs.Members.{AreDifferent};
 ghost use Rattle.byte_automata.specs.Numbers.{HasNumber, Numbers};
 ghost use Rattle.byte_automata.specs.Row.{CoversBytes, target};
@@ -102,7 +102,7 @@ fn edges_of_place<P: Eq + Hash + Drop, W: Walk<P>>(
 }
 
 /// The number of the place, which makes a node where the place is new.
-pub(crate) fn reach<P: Eq + Hash + Drop>(
+fn reach<P: Eq + Hash + Drop>(
     places: &mut Numbering<P>,
     meter: &mut Meter,
     place: P,

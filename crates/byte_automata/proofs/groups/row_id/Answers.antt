@@ -1,7 +1,7 @@
 use Rattle.std.proofs.Common.{◌+◌, ◌<◌, length, get_or, reverse, take, refl, arith, sym, subst}
 use Rattle.std.proofs.lemmas.List.{get_or_default}
 use Rattle.byte_automata.specs.Classes.{Spells}
-use Rattle.byte_automata.proofs.Merges.{grows-none, grows-twice}
+use Rattle.byte_automata.proofs.Grown.{grows-none, grows-twice}
 use Rattle.byte_automata.proofs.Grouping.{spells-more, numbers-grow}
 use Rattle.byte_automata.proofs.groups.row_id.Goals as goal
 

@@ -1,6 +1,6 @@
 use Rattle.std.proofs.Common.{reverse, take}
 use Rattle.byte_automata.specs.Classes.{Spells}
-use Rattle.byte_automata.specs.Meet.{Grows}
+use Rattle.byte_automata.specs.Grows.{Grows}
 use Rattle.byte_automata.specs.Members.{AreDifferent}
 use Rattle.byte_automata.proofs.groups.row_id.Given as goal
 

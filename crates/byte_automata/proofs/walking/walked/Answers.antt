@@ -2,7 +2,7 @@ use Rattle.std.proofs.Common.{◌≡◌, ℕ, ◌<◌, ◌≤◌, length, get_or
 use Rattle.std.proofs.lemmas.List.{get_or_default}
 use Rattle.waf_base.specs.declared.refusal.Stop.TheVariants.{Memory}
 use Rattle.byte_automata.specs.Automaton.{accepts}
-use Rattle.byte_automata.specs.Meet.{Grows}
+use Rattle.byte_automata.specs.Grows.{Grows}
 use Rattle.byte_automata.specs.Numbers.{HasNumber}
 use Rattle.byte_automata.specs.Row.{target}
 use Rattle.byte_automata.proofs.Walks.{first-stops, stops-kept, reached-here, walking-more, walking-stops, walking-kept, walking-language, walking-made, walking-counted, makes-stopped, makes-none, makes-all}
