@@ -13,6 +13,9 @@ COMMANDS = {
     "convert": "a template, a plan, an input of the API or logs, as a bundle or a log",
     "lint": "what a bundle says and the program doesn't read, or the service wouldn't take",
     "explain": "what a refusal of the program means, where it is, and its cure",
+    "answers": "what each line of a log says of the questions that a web ACL asks",
+    "impact": "what a change does to the requests of logs, line by line with the answers that each line has",
+    "backtest": "what the program decides on a log, beside what the service decided",
 }
 
 

@@ -7,6 +7,7 @@ from . import status
 from .fault import Fault
 
 TOP = os.path.dirname(os.path.dirname(os.path.dirname(os.path.realpath(__file__))))
+PATH = f"{TOP}/crates/wafreview/out/wafreview"
 # The status with which the launcher says that there is no program.
 NO_PROGRAM = 126
 
@@ -22,4 +23,11 @@ def run(*words):
 
 def is_built():
     """Returns whether the program stands built, so that a call answers at once."""
-    return os.access(f"{TOP}/crates/wafreview/out/wafreview", os.X_OK)
+    return os.access(PATH, os.X_OK)
+
+
+def call(*words):
+    """Calls the built program itself, without the launcher, which looks at all sources first: for callers that had an
+    answer by `run` before. Returns its status and what it printed, as bytes."""
+    ended = subprocess.run([PATH, *words], stdin=subprocess.DEVNULL, stdout=subprocess.PIPE, check=False)
+    return ended.returncode, ended.stdout
